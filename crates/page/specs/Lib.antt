@@ -1,0 +1,2 @@
+-- Words that every layer's definitions are written with.
+pub mod Tests

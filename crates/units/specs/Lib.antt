@@ -1,0 +1,2 @@
+-- The two steps between units, in document 01's words.
+pub mod Units
