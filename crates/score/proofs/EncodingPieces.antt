@@ -1,0 +1,217 @@
+-- "So every score has one file", from the piece: a lawful piece's file is accepted and says this piece. By what stands at each of the file's bodies.
+-- Assumes nothing.
+use mathlib.Core.Path.{_≡_, refl, sym, ap, _∙_}
+use mathlib.Core.Bool.{true}
+use mathlib.Core.List.{List, [], _∷_, _++_}
+use Prim.Native.Nat.{ℕ, _+_, _*_, _<_, _≤_}
+use native.Mathlib.Omega.{arith}
+use lib.ListN.{length, getD, drop, length-append}
+use lib.Dec.{leb}
+use borrow.Author.Tests.{eq-eqb, le-leb}
+use Rattle.page.specs.declared.Item.{Item}
+use Rattle.page.proofs.TestLaws.{every-head, every-rest, between-high}
+use Rattle.score.specs.declared.Verdict.the-variants.{Fine}
+use Rattle.score.specs.declared.Fault.the-variants.{BadEvent}
+use Rattle.score.specs.declared.Counts.{Counts}
+use Rattle.score.specs.Limits.{contentsSize, eventSize, itemSize, messageSize, longest, longestLabel, mostText}
+use Rattle.score.specs.Replies.{need, first}
+use Rattle.score.specs.Contents.{offsetsOf, countsOf, countsRight, offsetsRight, eventsAt, itemsAt, messagesAt, textAt, sizeOf}
+use Rattle.score.specs.Events.{durationsAt, eventsRight}
+use Rattle.score.specs.Items.{itemsFrom}
+use Rattle.score.specs.Messages.{labelByte, readable, labelsAt, messagesRight}
+use Rattle.score.specs.Piece.{Piece, decode}
+use Rattle.score.specs.File.{bodiesRight, checked, Accepted}
+use Rattle.score.specs.Encode.{le16, le32, contentsBytes, durationBytes, itemBytes, entryBytes, textBytes, countsIn, encode, labelsRight, Lawful}
+use Rattle.score.specs.Asked.{Counted}
+use Rattle.score.proofs.Verdicts.{holds, first-head, first-rest}
+use Rattle.score.proofs.EncodingBytes.{Bytes, empty, byte, bytes-append, bytes-at, le16-bytes, le32-bytes, le32-length, drop-on}
+use Rattle.score.proofs.ContentsLaws.{counts-held}
+use Rattle.score.proofs.Ranges.{Ranges, none, more, table-ranges}
+use Rattle.score.proofs.EncodingFiles.{encode-decode}
+use Rattle.score.proofs.EncodingReads.{Entries, offsetsIn, durations-read, items-read, labels-read, messages-right, counts-read, offsets-read, contents-rest}
+
+-- ---- how many bytes are written
+
+durations-size : (ds : List ℕ) → length (durationBytes ds) ≡ eventSize * length ds
+unfolding durationBytes
+durations-size [] = refl
+durations-size (d ∷ ds) = omega (arith, length-append (le32 d) (durationBytes ds), le32-length d, durations-size ds)
+
+items-size : (is : List Item) → length (itemBytes is) ≡ itemSize * length is
+unfolding itemBytes le32 le16
+items-size [] = refl
+items-size (i ∷ is) = omega (arith, items-size is)
+
+entries-size : (from : ℕ) (ls : List (List ℕ)) → length (entryBytes from ls) ≡ messageSize * length ls
+unfolding entryBytes le16
+entries-size from [] = refl
+entries-size from (l ∷ ls) = omega (arith, entries-size (from + length l) ls)
+
+contents-size : (c : Counts) → length (contentsBytes c) ≡ contentsSize
+unfolding contentsBytes le32 le16
+contents-size c = refl
+
+size-encode : (p : Piece) → length (encode p) ≡ sizeOf (countsIn p)
+unfolding encode countsIn
+size-encode p = simp (length-append, contents-size, durations-size, items-size, entries-size) (omega arith)
+
+-- ---- where the bodies of a lawful piece's file stand
+
+module _ (p : Piece) (l : Lawful p) where
+  counted : Counted (countsIn p)
+  counted = counts-held (countsIn p) (l .counts)
+
+  ranges : Ranges (p .items)
+  unfolding countsIn
+  ranges = table-ranges (countsIn p) (p .items) counted (counted .items) (l .items)
+
+  counts-encode : countsOf (encode p) ≡ countsIn p
+  unfolding encode
+  counts-encode = counts-read (encode p) (countsIn p) _ counted refl
+
+  offsets-encode : offsetsOf (encode p) ≡ offsetsIn (countsIn p)
+  unfolding encode
+  offsets-encode = offsets-read (encode p) (countsIn p) _ counted refl
+
+  at-events : drop eventsAt (encode p) ≡ durationBytes (p .durations) ++ (itemBytes (p .items) ++ (entryBytes 0 (p .labels) ++ textBytes (p .labels)))
+  unfolding encode
+  at-events = contents-rest (encode p) (countsIn p) _ counted refl
+
+  at-items : drop (itemsAt (countsIn p)) (encode p) ≡ itemBytes (p .items) ++ (entryBytes 0 (p .labels) ++ textBytes (p .labels))
+  unfolding countsIn
+  at-items = rw (durations-size (p .durations)) at (drop-on (encode p) eventsAt (durationBytes (p .durations)) _ at-events)
+
+  at-messages : drop (messagesAt (countsIn p)) (encode p) ≡ entryBytes 0 (p .labels) ++ textBytes (p .labels)
+  unfolding countsIn
+  at-messages = rw (items-size (p .items)) at (drop-on (encode p) (itemsAt (countsIn p)) (itemBytes (p .items)) _ at-items)
+
+  at-text : drop (textAt (countsIn p)) (encode p) ≡ textBytes (p .labels)
+  unfolding countsIn
+  at-text = rw (entries-size 0 (p .labels)) at (drop-on (encode p) (messagesAt (countsIn p)) (entryBytes 0 (p .labels)) _ at-messages)
+
+  entries : Entries (encode p) (countsIn p) (messagesAt (countsIn p)) 0 (p .labels) (textBytes (p .labels))
+  unfolding countsIn
+  entries =
+      let a : textAt (countsIn p) + 0 ≡ textAt (countsIn p) = omega arith in
+      record { right = l .labels; few = counted .text; whole = omega arith; entry = at-messages; text = rw a at-text }
+
+  items-encode : itemsFrom (encode p) (itemsAt (countsIn p)) (countsIn p .items) ≡ p .items
+  unfolding countsIn
+  items-encode = items-read (encode p) (itemsAt (countsIn p)) (p .items) _ ranges at-items
+
+  labels-encode : labelsAt (encode p) (countsIn p) (messagesAt (countsIn p)) (countsIn p .messages) ≡ p .labels
+  unfolding countsIn
+  labels-encode = labels-read (encode p) (countsIn p) (messagesAt (countsIn p)) 0 (p .labels) _ entries
+
+  messages-encode : messagesRight (encode p) (countsIn p) (messagesAt (countsIn p)) (countsIn p .messages) 0 ≡ Fine
+  unfolding countsIn
+  messages-encode = messages-right (encode p) (countsIn p) (messagesAt (countsIn p)) 0 (p .labels) _ entries
+
+  durations-encode : durationsAt (encode p) eventsAt (countsIn p .events) ≡ p .durations
+  unfolding countsIn
+  durations-encode = durations-read (encode p) eventsAt eventsAt (p .durations) _ (l .durations) at-events
+
+-- ---- "So every score has one file"
+
+-- A lawful piece's file says this piece.
+pub decode-encode : (p : Piece) → Lawful p → decode (encode p) ≡ p
+unfolding decode
+decode-encode p l = rw (counts-encode p l, durations-encode p l, items-encode p l, labels-encode p l)
+
+bodies-encode : (p : Piece) → Lawful p → bodiesRight (encode p) (countsIn p) ≡ Fine
+unfolding bodiesRight first
+bodies-encode p l = rw (decode-encode p l, l .durations, l .items, messages-encode p l)
+
+offsets-right : (c : Counts) → offsetsRight (offsetsIn c) c (sizeOf c) ≡ Fine
+unfolding offsetsRight first need
+offsets-right c = rw (eq-eqb (itemsAt c) _ refl, eq-eqb (messagesAt c) _ refl, eq-eqb (textAt c) _ refl, eq-eqb (sizeOf c) _ refl)
+
+encode-fine : (p : Piece) → Lawful p → checked (encode p) ≡ Fine
+unfolding checked first need
+encode-fine p l =
+    let f = encode p in
+    let long : leb contentsSize (length f) ≡ true = le-leb contentsSize (length f) (omega (arith, size-encode p)) in
+    let counts : countsRight (countsOf f) ≡ Fine = rw (counts-encode p l) (l .counts) in
+    let offsets : offsetsRight (offsetsOf f) (countsOf f) (length f) ≡ Fine = rw (offsets-encode p l, counts-encode p l, size-encode p) (offsets-right (countsIn p)) in
+    let bodies : bodiesRight f (countsOf f) ≡ Fine = rw (counts-encode p l) (bodies-encode p l) in
+    rw (long, counts, offsets, bodies)
+
+-- A lawful piece's file is accepted.
+pub encode-accepted : (p : Piece) → Lawful p → Accepted (encode p)
+encode-accepted p l = record { fine = encode-fine p l }
+
+-- ---- a lawful piece's file has bytes only
+
+durations-bytes : (q : ℕ) (ds : List ℕ) → eventsRight q ds ≡ Fine → Bytes (durationBytes ds)
+unfolding eventsRight durationBytes
+durations-bytes q [] e = empty
+durations-bytes q (d ∷ ds) e =
+    let small : d ≤ longest = between-high _ _ _ (holds _ (BadEvent q) _ e) in
+    bytes-append (le32-bytes d (omega arith)) (durations-bytes (q + eventSize) ds (first-head _ _ (first-rest _ _ e)))
+
+items-bytes : {is : List Item} → Ranges is → Bytes (itemBytes is)
+unfolding itemBytes
+items-bytes none = empty
+items-bytes (more {i = i} r rs) =
+    let kind : i .kind < 256 = omega (arith, r .kind) in
+    let synchrony : i .synchrony < 256 = omega (arith, r .synchrony) in
+    let error : i .error < 256 = omega (arith, r .error) in
+    let part : i .part < 256 = omega (arith, r .part) in
+    let delay = le32-bytes (i .delay .0) (omega (arith, r .delay)) in
+    let event = le16-bytes (i .event) (omega (arith, r .event)) in
+    let last = le16-bytes (i .last) (omega (arith, r .last)) in
+    byte kind (byte synchrony (byte error (byte part (bytes-append delay (bytes-append event (bytes-append last (items-bytes rs)))))))
+
+entries-bytes : (from : ℕ) (ls : List (List ℕ)) → labelsRight ls ≡ true → from + length (textBytes ls) ≤ mostText → Bytes (entryBytes from ls)
+unfolding labelsRight entryBytes textBytes
+entries-bytes from [] e q = empty
+entries-bytes from (l ∷ ls) e q =
+    let small = between-high 1 longestLabel (length l) (every-head _ _ e) in
+    let room = length-append l (textBytes ls) in
+    bytes-append (le16-bytes from (omega arith))
+    (bytes-append (le16-bytes (length l) (omega arith)) (entries-bytes (from + length l) ls (every-head _ _ (every-rest _ _ (every-rest _ _ e))) (omega arith)))
+
+label-bytes : (l : List ℕ) → readable l ≡ true → Bytes l
+unfolding readable labelByte
+label-bytes [] e = empty
+label-bytes (b ∷ l) e =
+    let small : b < 256 = omega (arith, between-high 32 255 b (every-head _ _ (every-head _ _ e))) in
+    byte small (label-bytes l (every-head _ _ (every-rest _ _ e)))
+
+text-bytes : (ls : List (List ℕ)) → labelsRight ls ≡ true → Bytes (textBytes ls)
+unfolding labelsRight textBytes
+text-bytes [] e = empty
+text-bytes (l ∷ ls) e =
+    let e₁ = every-rest _ _ e in
+    bytes-append (label-bytes l (every-head _ _ e₁)) (text-bytes ls (every-head _ _ (every-rest _ _ e₁)))
+
+contents-bytes : (c : Counts) → Counted c → Bytes (contentsBytes c)
+unfolding contentsBytes
+contents-bytes c k =
+    bytes-append (le32-bytes eventsAt (omega arith))
+    (bytes-append (le32-bytes (c .events) (omega arith))
+    (bytes-append (le32-bytes (itemsAt c) (omega arith))
+    (bytes-append (le32-bytes (c .items) (omega arith))
+    (bytes-append (le32-bytes (messagesAt c) (omega arith))
+    (bytes-append (le32-bytes (c .messages) (omega arith))
+    (bytes-append (le32-bytes (textAt c) (omega arith)) (le32-bytes (c .text) (omega arith))))))))
+
+-- A lawful piece's file has bytes only.
+pub encode-bytes : (p : Piece) → Lawful p → (i : ℕ) → getD (encode p) i 0 < 256
+unfolding encode countsIn
+encode-bytes p l =
+    let k = counted p l in
+    bytes-at (
+    bytes-append (contents-bytes (countsIn p) k)
+    (bytes-append (durations-bytes eventsAt (p .durations) (l .durations))
+    (bytes-append (items-bytes (ranges p l))
+    (bytes-append (entries-bytes 0 (p .labels) (l .labels) (omega (arith, k .text))) (text-bytes (p .labels) (l .labels)))))
+    )
+
+-- ---- "So every score has one file": one file for a piece, and one piece for a file
+
+pub one-file : (f g : List ℕ) → ((i : ℕ) → getD f i 0 < 256) → ((i : ℕ) → getD g i 0 < 256) → Accepted f → Accepted g → decode f ≡ decode g → f ≡ g
+one-file f g bf bg p q e = sym (encode-decode f bf p) ∙ ap encode e ∙ encode-decode g bg q
+
+pub one-piece : (p q : Piece) → Lawful p → Lawful q → encode p ≡ encode q → p ≡ q
+one-piece p q l m e = sym (decode-encode p l) ∙ ap decode e ∙ decode-encode q m

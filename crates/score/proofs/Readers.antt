@@ -1,0 +1,76 @@
+-- What the readers lean on: where an event and an item of an accepted file stand, and that what is read there is what the file says.
+-- Assumes nothing.
+use mathlib.Core.Path.{_≡_, sym, _∙_}
+use mathlib.Core.List.{List}
+use Prim.Native.Nat.{ℕ, _+_, _*_, _<_, _≤_}
+use native.Mathlib.Omega.{arith}
+use lib.ListN.{length, getD}
+use borrow.Author.Needs.{needs}
+use Rattle.page.specs.declared.Item.{Item}
+use Rattle.page.proofs.TestLaws.{between-low, between-high}
+use Rattle.score.specs.declared.Counts.{Counts}
+use Rattle.score.specs.Limits.{eventSize, itemSize, mostEvents, mostItems, mostMessages}
+use Rattle.score.specs.Bytes.{u32At}
+use Rattle.score.specs.Contents.{countsOf, eventsAt, itemsAt, sizeOf}
+use Rattle.score.specs.Items.{itemAt}
+use Rattle.score.specs.Piece.{decode}
+use Rattle.score.specs.File.{Accepted}
+use Rattle.score.specs.Readers.{EventIn, EventRead, ItemIn, ItemRead, blank}
+use Rattle.score.specs.Asked.{Counted}
+use Rattle.score.proofs.Tables.{durations-at, items-at, events-decoded, items-decoded}
+use Rattle.score.proofs.Accepted.{file-long, file-sized, file-events, file-items}
+use Rattle.score.proofs.Ranges.{duration-ranged, items-ranged}
+
+-- ---- counts
+
+module _ (f : List ℕ) (c : Counts) (accepted : Accepted f) (e : c ≡ countsOf f) where
+  pub counted-read : Counted c
+  counted-read = rw e (file-sized f accepted .counted)
+
+  pub events-read : (c .events ≡ countsOf f .events) × (1 ≤ c .events) × (c .events ≤ mostEvents)
+  events-read = (rw e, counted-read .some, counted-read .events)
+
+  pub items-read : (c .items ≡ countsOf f .items) × (c .items ≤ mostItems)
+  items-read = (rw e, counted-read .items)
+
+  pub messages-read : (c .messages ≡ countsOf f .messages) × (c .messages ≤ mostMessages)
+  messages-read = (rw e, counted-read .messages)
+
+-- ---- events
+
+module _ (f : List ℕ) (k : ℕ) (asked : EventIn f k) where
+  pub event-within : eventsAt + eventSize * k + eventSize ≤ length f
+  event-within =
+      let b = asked .below in
+      let s = file-sized f (asked .accepted) .whole in
+      omega arith
+
+  pub event-read : (r : ℕ) → r ≡ u32At f (eventsAt + eventSize * k) → EventRead f k (record { 0 = r })
+  unfolding decode
+  event-read r e =
+      let same : r ≡ getD (decode f .durations) k 0 = e ∙ sym (durations-at f eventsAt (countsOf f .events) k 0 (asked .below)) in
+      let range = duration-ranged eventsAt (decode f .durations) k (file-events f (asked .accepted)) (rw (events-decoded f) (asked .below)) in
+      record { read = same; some = rw same (between-low _ _ _ range); short = rw same (between-high _ _ _ range) }
+
+-- ---- items
+
+module _ (f : List ℕ) (p : ℕ) (asked : ItemIn f p) where
+  pub item-read : (r : Item) (c : Counts) (at : ℕ) → c ≡ countsOf f → at ≡ itemsAt c → r ≡ itemAt f (at + itemSize * p) → ItemRead f p r
+  unfolding decode
+  item-read r c at ec ea e =
+      let s = file-sized f (asked .accepted) in
+      let z : r ≡ itemAt f (itemsAt (countsOf f) + itemSize * p) = e ∙ rw (ea, ec) in
+      let same : r ≡ getD (decode f .items) p blank = z ∙ sym (items-at f (itemsAt (countsOf f)) (countsOf f .items) p blank (asked .below)) in
+      record {
+        read = same;
+        ranged = rw same (items-ranged (countsOf f) (decode f .items) p (s .counted) (file-items f (asked .accepted)) (rw (items-decoded f) (s .counted .items)) (rw (items-decoded f) (asked .below)));
+      }
+
+  module _ (c : Counts) (at : ℕ) (ec : c ≡ countsOf f) (ea : at ≡ itemsAt c) where
+    pub item-within : at + itemSize * p + itemSize ≤ length f
+    item-within =
+        let b : p < c .items = rw ec (asked .below) in
+        let s : length f ≡ sizeOf c = rw ec (file-sized f (asked .accepted) .whole) in
+        omega arith
+
+pub ruleset items = (file-long, counted-read, item-read, item-within, needs)

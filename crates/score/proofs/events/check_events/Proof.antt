@@ -1,0 +1,60 @@
+-- The invariant: what the events left are found to be is what all of them are found to be.
+-- Assumes nothing.
+use Prim.Native.Nat.{_+_, _*_, _≤_}
+use mathlib.Core.Path.{_≡_}
+use lib.ListN.{length}
+use Rattle.score.specs.Limits.{eventSize}
+use Rattle.score.specs.Contents.{eventsAt}
+use Rattle.score.specs.Events.{durationsAt, eventsRight}
+use Rattle.score.proofs.EventSteps.{events}
+use Rattle.score.proofs.events.check_events.Statement.{statement}
+use Rattle.score.proofs.events.check_events.Tie as tie
+
+abbrev Inv-loop : tie.InvT-loop
+Inv-loop file i₀ left₀ i left = (i + eventSize * left ≤ length file) × (eventsRight i (durationsAt file i left) ≡ eventsRight eventsAt (durationsAt file eventsAt left₀))
+
+abbrev μ-loop : tie.MeasureT-loop
+μ-loop file i₀ left₀ i left = left
+
+loop-holds : tie.Need-loop-holds Inv-loop μ-loop
+loop-holds c = search events
+
+read32-requires : tie.Need-read32-requires Inv-loop μ-loop
+read32-requires c κs = search events
+
+returns : tie.Need-returns Inv-loop μ-loop
+returns c = search events
+
+returns-2 : tie.Need-returns-2 Inv-loop μ-loop
+returns-2 c = search events
+
+add-i : tie.Need-add-i Inv-loop μ-loop
+add-i c = search events
+
+sub-left : tie.Need-sub-left Inv-loop μ-loop
+sub-left c = search events
+
+loop-less : tie.Need-loop-less Inv-loop μ-loop
+loop-less c = search events
+
+loop-again : tie.Need-loop-again Inv-loop μ-loop
+loop-again c = search events
+
+returns-3 : tie.Need-returns-3 Inv-loop μ-loop
+returns-3 c = search events
+
+pub check-events-spec : {M : Type 1} → statement M
+check-events-spec =
+    tie.close
+    (tie.spec
+    Inv-loop
+    μ-loop
+    loop-holds
+    read32-requires
+    returns
+    returns-2
+    add-i
+    sub-left
+    loop-less
+    loop-again
+    returns-3)

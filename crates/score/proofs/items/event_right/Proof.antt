@@ -1,0 +1,29 @@
+-- The tests of the code are those of the definition, in its order.
+-- Assumes nothing.
+use borrow.Author.Needs.{needs}
+use Rattle.page.proofs.TestLaws.{tests}
+use Rattle.score.specs.Items.{eventRight}
+use Rattle.score.proofs.items.event_right.Statement.{statement}
+use Rattle.score.proofs.items.event_right.Tie as tie
+
+returns : tie.Need-returns
+unfolding eventRight
+returns c = search tests depth 9
+
+returns-2 : tie.Need-returns-2
+unfolding eventRight
+returns-2 c = search tests depth 9
+
+returns-3 : tie.Need-returns-3
+unfolding eventRight
+returns-3 c = search tests depth 9
+
+in-order-requires : tie.Need-in-order-requires
+in-order-requires c κs = search needs
+
+returns-4 : tie.Need-returns-4
+unfolding eventRight
+returns-4 c = search tests depth 9
+
+pub event-right-spec : {M : Type 1} → statement M
+event-right-spec = tie.close (tie.spec returns returns-2 returns-3 in-order-requires returns-4)

@@ -1,0 +1,18 @@
+-- A byte is below 256, so only the two tests are left of the definition.
+-- Assumes nothing.
+use borrow.Author.Needs.{needs}
+use Rattle.page.proofs.TestLaws.{tests}
+use Rattle.score.specs.Messages.{labelByte}
+use Rattle.score.proofs.messages.label_byte.Statement.{statement}
+use Rattle.score.proofs.messages.label_byte.Tie as tie
+
+returns : tie.Need-returns
+unfolding labelByte
+returns c = search (tests, needs) depth 9
+
+returns-2 : tie.Need-returns-2
+unfolding labelByte
+returns-2 c = search (tests, needs) depth 9
+
+pub label-byte-spec : {M : Type 1} → statement M
+label-byte-spec = tie.close (tie.spec returns returns-2)

@@ -1,0 +1,59 @@
+-- The invariant: whether the bytes left are label bytes is whether all of them are.
+-- Assumes nothing.
+use Prim.Native.Nat.{_+_, _≤_}
+use mathlib.Core.Path.{_≡_}
+use lib.ListN.{length}
+use Rattle.score.specs.Bytes.{part}
+use Rattle.score.specs.Messages.{readable}
+use Rattle.score.proofs.MessageSteps.{labels}
+use Rattle.score.proofs.messages.label_bytes.Statement.{statement}
+use Rattle.score.proofs.messages.label_bytes.Tie as tie
+
+abbrev Inv-loop : tie.InvT-loop
+Inv-loop file at count i₀ left₀ i left = (i + left ≤ length file) × (readable (part file i left) ≡ readable (part file at count))
+
+abbrev μ-loop : tie.MeasureT-loop
+μ-loop file at count i₀ left₀ i left = left
+
+loop-holds : tie.Need-loop-holds Inv-loop μ-loop
+loop-holds c = search labels
+
+byte-requires : tie.Need-byte-requires Inv-loop μ-loop
+byte-requires c κs = search labels
+
+label-byte-requires : tie.Need-label-byte-requires Inv-loop μ-loop
+label-byte-requires c κs = search labels
+
+returns : tie.Need-returns Inv-loop μ-loop
+returns c = search labels
+
+add-i : tie.Need-add-i Inv-loop μ-loop
+add-i c = search labels
+
+sub-left : tie.Need-sub-left Inv-loop μ-loop
+sub-left c = search labels
+
+loop-less : tie.Need-loop-less Inv-loop μ-loop
+loop-less c = search labels
+
+loop-again : tie.Need-loop-again Inv-loop μ-loop
+loop-again c = search labels
+
+returns-2 : tie.Need-returns-2 Inv-loop μ-loop
+returns-2 c = search labels
+
+pub label-bytes-spec : {M : Type 1} → statement M
+label-bytes-spec =
+    tie.close
+    (tie.spec
+    Inv-loop
+    μ-loop
+    loop-holds
+    byte-requires
+    label-byte-requires
+    returns
+    add-i
+    sub-left
+    loop-less
+    loop-again
+    returns-2)

@@ -1,0 +1,211 @@
+// The score file: whether one is right and where the first fault is, what it says, and the labels of its messages.
+ghost use mathlib.Core.Path.{_≡_};
+ghost use Prim.Native.Nat.{_≤_, _<_};
+ghost use Rattle.score.specs.Limits.{mostEvents, mostItems, mostMessages};
+ghost use Rattle.score.specs.Replies.{replyOf};
+ghost use Rattle.score.specs.Contents.{countsOf};
+ghost use Rattle.score.specs.File.{checked, Accepted};
+ghost use Rattle.score.specs.LookUp.{labelReply, labelSpan, Part};
+ghost use Rattle.score.specs.Readers.{EventIn, ItemIn, EventRead, ItemRead};
+use bodies::check_bodies;
+use bytes::read32;
+use contents::check_counts;
+use contents::check_layout;
+use contents::items_at;
+use contents::read_counts;
+use items::item_at;
+use limits::CONTENTS_SIZE;
+use limits::EVENT_SIZE;
+use limits::ITEM_SIZE;
+use look_up::label_span;
+use page::Item;
+use replies::table_row;
+use units::Grains;
+
+mod bodies;
+mod bytes;
+mod contents;
+mod events;
+mod items;
+mod limits;
+mod look_up;
+mod messages;
+mod replies;
+mod table;
+
+// What can be wrong with a file, and with a message asked of it: one case for each row of the reply table.
+pub enum Fault {
+    // "file under 32 bytes"
+    FileShort,
+    // "a count outside its limits"
+    BadCount(usize),
+    // "an offset not as above"
+    BadOffset(usize),
+    // "offsets right, file length wrong"
+    BadLength,
+    // "an event's duration"
+    BadEvent(usize),
+    // "an item against the rules; also the 1,025th action"
+    BadItem(usize),
+    // "a message entry or its label bytes"
+    BadMessage(usize),
+    // "entries right, text not used up"
+    TextLeft,
+    // "no such message"
+    NoMessage,
+}
+
+// What a check of a file, or of a part of it, finds.
+pub enum Verdict {
+    Fine,
+    Refused(Fault),
+}
+
+// The reply table's number and place.
+pub struct Reply {
+    pub number: usize,
+    pub place: usize,
+}
+
+// The table of contents: where each body starts, and how many it has.
+pub struct Offsets {
+    pub events: usize,
+    pub items: usize,
+    pub messages: usize,
+    pub text: usize,
+}
+
+pub struct Counts {
+    pub events: usize,
+    pub items: usize,
+    pub messages: usize,
+    pub text: usize,
+}
+
+// What is asked of an item: at depth 1 not to stand before this event and part, deeper to be of this part.
+pub struct Holder {
+    pub depth: usize,
+    pub event: usize,
+    pub part: usize,
+}
+
+// How a walk of items ends: with so many actions, or at the first byte of the first bad item.
+pub enum Walk {
+    Actions(usize),
+    Stop(usize),
+}
+
+// What the walk goes on with after an item: the items within it and after it, the actions so far, and its event and part.
+pub struct Step {
+    pub right: bool,
+    pub body: usize,
+    pub after: usize,
+    pub actions: usize,
+    pub event: usize,
+    pub part: usize,
+}
+
+// Where a label lies in the file.
+pub struct Span {
+    pub start: usize,
+    pub size: usize,
+}
+
+// The first fault of a file.
+pub fn check_file(file: &[u8]) -> Verdict
+    ensures { λ r. ⌜ r ≡ checked (now (file .entry)) ⌝ }
+{
+    if file.len() < CONTENTS_SIZE {
+        return Verdict::Refused(Fault::FileShort);
+    }
+    let c = read_counts(file);
+    let counted = check_counts(c);
+    let Verdict::Fine = counted else {
+        return counted;
+    };
+    let placed = check_layout(file, c);
+    let Verdict::Fine = placed else {
+        return placed;
+    };
+    check_bodies(file, c)
+}
+
+// The reply table's number and place for what a check or a look-up found.
+pub fn replied(v: Verdict) -> Reply
+    ensures { λ r. ⌜ r ≡ replyOf v ⌝ }
+{
+    match v {
+        Verdict::Fine => Reply {
+            number: 0,
+            place: 0,
+        },
+        Verdict::Refused(x) => table_row(x),
+    }
+}
+
+// The text look-up's reply. The number is taken whole, however large.
+pub fn label_reply(file: &[u8], n: u64) -> Verdict
+    ensures { λ r. ⌜ r ≡ labelReply (now (file .entry)) n ⌝ }
+{
+    let v = check_file(file);
+    let Verdict::Fine = v else {
+        return v;
+    };
+    let c = read_counts(file);
+    if c.messages as u64 <= n {
+        return Verdict::Refused(Fault::NoMessage);
+    }
+    Verdict::Fine
+}
+
+// The text look-up's part: the label's own bytes in the caller's file, never a copy.
+pub fn label(file: &[u8], n: u64) -> &[u8]
+    ensures { λ r. ⌜ Part (file .entry) r (labelSpan (now (file .entry)) n) ⌝ }
+{
+    let s = label_span(file, n);
+    let start = s.start;
+    let end = start + s.size;
+    &file[start..end]
+}
+
+// How many events, items and messages an accepted file has.
+pub fn event_count(file: &[u8]) -> usize
+    requires { ⌜ Accepted (now file) ⌝ }
+    ensures { λ r. ⌜ (r ≡ countsOf (now (file .entry)) .events) × (1 ≤ r) × (r ≤ mostEvents) ⌝ }
+{
+    let c = read_counts(file);
+    c.events
+}
+
+pub fn item_count(file: &[u8]) -> usize
+    requires { ⌜ Accepted (now file) ⌝ }
+    ensures { λ r. ⌜ (r ≡ countsOf (now (file .entry)) .items) × (r ≤ mostItems) ⌝ }
+{
+    let c = read_counts(file);
+    c.items
+}
+
+pub fn message_count(file: &[u8]) -> usize
+    requires { ⌜ Accepted (now file) ⌝ }
+    ensures { λ r. ⌜ (r ≡ countsOf (now (file .entry)) .messages) × (r ≤ mostMessages) ⌝ }
+{
+    let c = read_counts(file);
+    c.messages
+}
+
+// The duration of event k + 1.
+pub fn duration(file: &[u8], k: usize) -> Grains
+    requires { ⌜ EventIn (now file) k ⌝ }
+    ensures { λ r. ⌜ EventRead (now (file .entry)) k r ⌝ }
+{
+    Grains(read32(file, CONTENTS_SIZE + EVENT_SIZE * k) as u64)
+}
+
+// The item at the page place `p`.
+pub fn read_item(file: &[u8], p: usize) -> Item
+    requires { ⌜ ItemIn (now file) p ⌝ }
+    ensures { λ r. ⌜ ItemRead (now (file .entry)) p r ⌝ }
+{
+    let c = read_counts(file);
+    item_at(file, items_at(c) + ITEM_SIZE * p)
+}

@@ -1,0 +1,38 @@
+// Where a message's label lies in its file.
+ghost use mathlib.Core.Path.{_≡_};
+ghost use Prim.Native.Nat.{_+_, _≤_};
+ghost use lib.ListN.{length};
+ghost use Rattle.score.specs.LookUp.{labelSpan};
+ghost use Rattle.score.specs.Asked.{Granted};
+use crate::Counts;
+use crate::Span;
+use crate::Verdict;
+use crate::bytes::read16;
+use crate::contents::messages_at;
+use crate::contents::read_counts;
+use crate::contents::text_at;
+use crate::label_reply;
+use crate::limits::MESSAGE_SIZE;
+
+// The span of message `n` of a file that is right and has it.
+fn read_span(file: &[u8], c: Counts, n: usize) -> Span
+    requires { ⌜ Granted (now file) c n ⌝ }
+    ensures { λ r. ⌜ (r ≡ labelSpan (now (file .entry)) n) × (r .start + r .size ≤ length (now (file .entry))) ⌝ }
+{
+    let at = messages_at(c) + MESSAGE_SIZE * n;
+    Span {
+        start: text_at(c) + read16(file, at),
+        size: read16(file, at + 2),
+    }
+}
+
+pub fn label_span(file: &[u8], n: u64) -> Span
+    ensures { λ r. ⌜ (r ≡ labelSpan (now (file .entry)) n) × (r .start + r .size ≤ length (now (file .entry))) ⌝ }
+{
+    let v = label_reply(file, n);
+    let Verdict::Fine = v else {
+        return Span { start: 0, size: 0 };
+    };
+    let c = read_counts(file);
+    read_span(file, c, n as usize)
+}

@@ -1,0 +1,27 @@
+// The reply table: the number and the place of every fault.
+ghost use mathlib.Core.Path.{_≡_};
+ghost use Rattle.score.specs.Replies.{tableRow};
+use crate::Fault;
+use crate::Reply;
+
+fn row(number: usize, place: usize) -> Reply
+    ensures { λ r. ⌜ r ≡ record { number = number; place = place } ⌝ }
+{
+    Reply { number, place }
+}
+
+pub fn table_row(x: Fault) -> Reply
+    ensures { λ r. ⌜ r ≡ tableRow x ⌝ }
+{
+    match x {
+        Fault::FileShort => row(3, 0),
+        Fault::BadCount(at) => row(4, at),
+        Fault::BadOffset(at) => row(5, at),
+        Fault::BadLength => row(5, 0),
+        Fault::BadEvent(at) => row(6, at),
+        Fault::BadItem(at) => row(7, at),
+        Fault::BadMessage(at) => row(8, at),
+        Fault::TextLeft => row(8, 24),
+        Fault::NoMessage => row(15, 0),
+    }
+}
