@@ -1,0 +1,17 @@
+pub mod WordLaws
+pub mod Dates
+pub mod HeardLaws
+pub mod Sift
+pub mod Bodies
+pub mod RuleLaws
+pub mod GroupWiseLaws
+pub mod Events
+pub mod Readings
+pub mod Grow
+pub mod Sound
+pub mod Bounds
+pub mod Places
+pub mod OwnPart
+pub mod Placeless
+pub mod OwnItems
+pub mod StandingLaws

@@ -1,0 +1,70 @@
+-- Groups as document 01 speaks of them: the past and the future items of a body, and its slices. RuleLaws has the rules in these words.
+use mathlib.Core.Path.{_≡_}
+use Prim.Native.Nat.{ℕ, zero, suc, _+_, _-_, _≤_}
+use mathlib.Core.Bool.{Bool, true, false, not}
+use mathlib.Core.List.{List, [], _++_}
+use lib.Dec.{eqb}
+use Rattle.rules.specs.Words.{loose, ErrorWord}
+use Rattle.rules.specs.Score.{Seq, end, action, group}
+use Rattle.rules.specs.Heard.{heard, missed}
+use Rattle.rules.specs.Rules.{Reading, past, Line, run, top, perform}
+
+-- A part's sequence at event i where the delays before it sum up to d: "a sequence from (i, d)".
+unfoldable pub performFrom : Reading → (i d : ℕ) → Seq → List Line
+performFrom R i d x = run R (top R i (R .became i)) d x
+
+-- The items of a sequence that are asked for, each at its own date: an action by the one test of its date, a group by the other. "A group inside goes whole, by
+-- its start, with its own words." The sequence starts at the date b, s is the sum of its delays so far, and c is the date of the last item taken, at first
+-- that at which the new sequence starts.
+unfoldable pub select : (actions groups : ℕ → Bool) → (b s c : ℕ) → Seq → Seq
+select A G b s c end = end
+select A G b s c (action d m p rest) =
+    elim (A (b + (s + d))) [
+      | true ↦ action (b + (s + d) - c) m p (select A G b (s + d) (b + (s + d)) rest)
+      | false ↦ select A G b (s + d) c rest
+    ]
+select A G b s c (group d y e body rest) =
+    elim (G (b + (s + d))) [
+      | true ↦ group (b + (s + d) - c) y e body (select A G b (s + d) (b + (s + d)) rest)
+      | false ↦ select A G b (s + d) c rest
+    ]
+
+-- ---- of a body that starts at the date b
+
+-- "the items starting before E(j) are past": at their dates, counted from c.
+unfoldable pub pastItems : Reading → (j b c : ℕ) → Seq → Seq
+pastItems R j b c x = select (past R j) (past R j) b 0 c x
+
+-- "past actions are dropped"
+unfoldable pub pastGroups : Reading → (j b c : ℕ) → Seq → Seq
+pastGroups R j b c x = select (λ t. false) (past R j) b 0 c x
+
+-- "the others future": "their dates less E(j)".
+unfoldable pub future : Reading → (j t : ℕ) → Bool
+future R j t = not (past R j t)
+
+unfoldable pub futureItems : Reading → (j b : ℕ) → Seq → Seq
+futureItems R j b x = select (future R j) (future R j) b 0 (R .start j) x
+
+-- "An item of the body with ideal date t [..] goes to the last event k with E(k) <= t."
+unfoldable pub goesTo : Reading → (k t : ℕ) → Bool
+goesTo R k t = eqb (R .lastBefore t) k
+
+-- "its items at t - E(k)"
+unfoldable pub slice : Reading → (k b : ℕ) → Seq → Seq
+slice R k b x = select (goesTo R k) (goesTo R k) b 0 (R .start k) x
+
+-- "Each k that receives items gets a loose group with the same error word, at k with delay 0 [..]. It runs by these rules, k heard or missed." From 1 to n;
+-- an event that receives none has an empty group, which yields nothing.
+unfoldable pub slices : Reading → ErrorWord → (n b : ℕ) → Seq → List Line
+slices R e zero b x = []
+slices R e (suc n) b x = slices R e n b x ++ perform R (suc n) (group 0 loose e (slice R (suc n) b x) end)
+
+-- A reading of a score of n events, as document 01 has E, M and "the last event k with E(k) <= t": that event is one of the score's and has begun, a later date
+-- finds no earlier one, and M(i) is heard. Readings shows it of every score, whatever was heard.
+pub record Orderly (R : Reading) (n : ℕ) : Type 0 where
+  pub some : (t : ℕ) → 1 ≤ R .lastBefore t
+  pub fits : (t : ℕ) → R .lastBefore t ≤ n
+  pub begun : (t : ℕ) → R .start (R .lastBefore t) ≤ t
+  pub rises : (t u : ℕ) → t ≤ u → R .lastBefore t ≤ R .lastBefore u
+  pub next : (i j : ℕ) → R .became i ≡ missed j → R .became j ≡ heard
