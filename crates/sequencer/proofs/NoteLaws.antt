@@ -1,0 +1,92 @@
+-- Laws of a heard note's steps: each leaves the header, so that the next finds a session.
+-- Assumes nothing.
+use mathlib.Core.Path.{_≡_, refl, _∙_}
+use mathlib.Core.List.{List}
+use Prim.Native.Nat.{ℕ, suc, _+_, _-_, _≤_, _<_}
+use native.Mathlib.Omega.{arith}
+use lib.ListN.{length, set}
+use Rattle.evaluators.specs.declared.Tables.{Tables}
+use Rattle.evaluators.specs.Tables.{Laid, performed}
+use Rattle.sequencer.specs.Layout.{memorySize, clockEnd, markAt, eventsAt, itemsAt, partsAt, clockAt, tempoAt, lastAt, totalAt, takenAt, wordAt, tablesOf}
+use Rattle.sequencer.specs.Session.{Header}
+use Rattle.sequencer.specs.Sending.{settled}
+use Rattle.sequencer.specs.Calls.{tookNote, noted}
+use Rattle.sequencer.proofs.KeptLaws.{Kept, kept-then, kept-wider, kept-word, took-kept, performed-kept, settled-kept}
+
+-- ---- the loop over the events that a note settles
+
+pub took-step : (m W : List ℕ) (h k : ℕ) → k ≤ h → tookNote h (h + 1 - k) k m ≡ W → tookNote h (h + 1 - (k + 1)) (k + 1) (set m (takenAt + k) h) ≡ W
+unfolding tookNote
+took-step m W h k p e =
+    let s : h + 1 - k ≡ suc (h + 1 - (k + 1)) = omega arith in
+    rw s at e
+
+pub took-done : (m m₀ : List ℕ) (h k last : ℕ) → h < k → tookNote h (h + 1 - k) k m ≡ tookNote h (h + 1 - (last + 1)) (last + 1) m₀
+    → m ≡ tookNote h (h - last) (last + 1) m₀
+unfolding tookNote
+took-done m m₀ h k last p e =
+    let s : h + 1 - k ≡ 0 = omega arith in
+    let t : h + 1 - (last + 1) ≡ h - last = omega arith in
+    rw (s, t) at e
+
+-- ---- the header stays
+
+pub header-kept : {hi : ℕ} {m m′ : List ℕ} → Header m → Kept takenAt hi m m′ → Header m′
+header-kept h k =
+    record {
+      marked = kept-word k markAt (omega arith) ∙ h .marked;
+      some = rw (kept-word k eventsAt (omega arith)) (h .some);
+      events = rw (kept-word k eventsAt (omega arith)) (h .events);
+      items = rw (kept-word k itemsAt (omega arith)) (h .items);
+      parts = rw (kept-word k partsAt (omega arith)) (h .parts);
+      clock = rw (kept-word k clockAt (omega arith)) (h .clock);
+      moving = rw (kept-word k tempoAt (omega arith)) (h .moving);
+      tempo = rw (kept-word k tempoAt (omega arith)) (h .tempo);
+      last = rw (kept-word k lastAt (omega arith), kept-word k eventsAt (omega arith)) (h .last);
+      total = rw (kept-word k totalAt (omega arith), kept-word k clockAt (omega arith), kept-word k lastAt (omega arith)) (h .total);
+    }
+
+-- ---- the whole note
+
+module _ (m : List ℕ) (h : ℕ) (long : memorySize ≤ length m) (hd : Header m) (f : h ≤ wordAt m eventsAt) where
+  took-whole : Kept takenAt memorySize m (tookNote h (h - wordAt m lastAt) (wordAt m lastAt + 1) m)
+  took-whole = kept-wider (omega arith) (omega arith) (took-kept h (h - wordAt m lastAt) (wordAt m lastAt + 1) m (omega arith))
+
+  pub perform-ready : (m₁ : List ℕ) (t : Tables) → m₁ ≡ tookNote h (h - wordAt m lastAt) (wordAt m lastAt + 1) m → t ≡ tablesOf m₁ → Laid t (length m₁)
+  perform-ready m₁ t a b =
+      let k : Kept takenAt memorySize m m₁ = rw a took-whole in
+      let g = k .long in
+      let hd₁ = header-kept hd k in
+      rw b
+      (record { starts = omega arith; taken = omega arith; items = omega arith; outcomes = omega arith; some = hd₁ .some; few = hd₁ .events; page = hd₁ .items })
+
+  decided : (m₁ m₂ : List ℕ) (t : Tables) → m₁ ≡ tookNote h (h - wordAt m lastAt) (wordAt m lastAt + 1) m → t ≡ tablesOf m₁ → m₂ ≡ performed t m₁
+      → Kept takenAt memorySize m m₂
+  decided m₁ m₂ t a b d =
+      let k : Kept takenAt memorySize m m₁ = rw a took-whole in
+      let i : wordAt m₁ itemsAt ≤ 2048 = header-kept hd k .items in
+      kept-then k (rw (d, b) (kept-wider (omega arith) (omega arith) (performed-kept (tablesOf m₁) m₁ (perform-ready m₁ (tablesOf m₁) a refl))))
+
+  pub decided-items : (m₁ m₂ : List ℕ) (t : Tables) → m₁ ≡ tookNote h (h - wordAt m lastAt) (wordAt m lastAt + 1) m → t ≡ tablesOf m₁ → m₂ ≡ performed t m₁
+      → wordAt m₂ itemsAt ≤ 2048
+  decided-items m₁ m₂ t a b d = header-kept hd (decided m₁ m₂ t a b d) .items
+
+  pub decided-clock : (m₁ m₂ : List ℕ) (t : Tables) → m₁ ≡ tookNote h (h - wordAt m lastAt) (wordAt m lastAt + 1) m → t ≡ tablesOf m₁ → m₂ ≡ performed t m₁
+      → wordAt m₂ clockAt ≤ clockEnd
+  decided-clock m₁ m₂ t a b d = header-kept hd (decided m₁ m₂ t a b d) .clock
+
+  pub noted-by : (m₁ m₂ m₃ : List ℕ) (t : Tables) → m₁ ≡ tookNote h (h - wordAt m lastAt) (wordAt m lastAt + 1) m → t ≡ tablesOf m₁ → m₂ ≡ performed t m₁
+      → m₃ ≡ settled (wordAt m₂ clockAt) (wordAt m₂ itemsAt) 0 m₂ → m₃ ≡ noted h m
+  unfolding noted
+  noted-by m₁ m₂ m₃ t a b d e =
+      let k = decided m₁ m₂ t a b d in
+      e ∙ rw (kept-word k clockAt (omega arith), kept-word k itemsAt (omega arith), d, b, a)
+
+  pub noted-kept : Kept takenAt memorySize m (noted h m)
+  unfolding noted
+  noted-kept =
+      kept-then (decided _ _ _ refl refl refl)
+      (kept-wider (omega arith) (omega arith) (settled-kept (wordAt m clockAt) (wordAt m itemsAt) 0 _ (omega arith)))
+
+  pub noted-header : Header (noted h m)
+  noted-header = header-kept hd noted-kept
