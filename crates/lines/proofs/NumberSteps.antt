@@ -1,0 +1,98 @@
+-- One step of reading a number's digits, in the code's own terms. The sum of i digits stays below 10 ^ i, so that ten of them never wrap.
+-- Assumes nothing.
+use mathlib.Core.Path.{_≡_, refl, sym, ap, _∙_}
+use mathlib.Core.Bool.{Bool, true, false}
+use mathlib.Core.List.{List, [], _∷_}
+use Prim.Native.Nat.{ℕ, _+_, _-_, _*_, _^_, _<_, _≤_}
+use native.Mathlib.Nat.{pow-suc, pow-le-pow-right}
+use native.Mathlib.Numerals.{add-one}
+use native.Mathlib.Omega.{arith}
+use lib.ListN.{length, drop, getD, drop-of-length-le}
+use borrow.Author.Needs.{needs}
+use Rattle.page.specs.Tests.{every, between}
+use Rattle.page.proofs.TestLaws.{every-pass, every-stop, every-last, every-end, between-in, between-under, between-over, pick-true, pick-false}
+use Rattle.lines.specs.declared.numbers.Number.the-variants.{Read, Unreadable}
+use Rattle.lines.specs.Words.{zeroDigit, nineDigit}
+use Rattle.lines.specs.Numbers.{mostDigits, allDigits, isNumber, valueFrom, value, numberOf}
+use Rattle.lines.proofs.WordSteps.{drop-next}
+
+-- ---- what is no number
+
+no-number : (bs : List ℕ) → isNumber bs ≡ false → Unreadable ≡ numberOf bs
+unfolding numberOf
+no-number bs e = pick-false _ _ _ _ e refl
+
+pub number-short : (bs : List ℕ) → length bs < 1 → Unreadable ≡ numberOf bs
+unfolding isNumber
+number-short bs p = no-number bs (sym (every-stop _ _ (between-under 1 mostDigits (length bs) p)))
+
+pub long-no-number : (bs : List ℕ) → mostDigits < length bs → isNumber bs ≡ false
+unfolding isNumber
+long-no-number bs p = sym (every-stop _ _ (between-over 1 mostDigits (length bs) p))
+
+pub number-long : (bs : List ℕ) → mostDigits < length bs → Unreadable ≡ numberOf bs
+number-long bs p = no-number bs (long-no-number bs p)
+
+not-all : (b : Bool) (bs : List ℕ) → allDigits bs ≡ false → every (b ∷ allDigits bs ∷ []) ≡ false
+unfolding every
+not-all true bs e = rw e
+not-all false bs e = refl
+
+odd-digit : (bs : List ℕ) → allDigits bs ≡ false → Unreadable ≡ numberOf bs
+unfolding isNumber
+odd-digit bs e = no-number bs (not-all _ bs e)
+
+-- ---- a digit more
+
+pub sum-start : 0 < 10 ^ 0
+sum-start = omega arith
+
+pub value-start : (bs : List ℕ) → valueFrom 0 (drop 0 bs) ≡ value bs
+unfolding value
+value-start bs = refl
+
+module _ (bs : List ℕ) (i : ℕ) (more : i < length bs) where
+  digits-more : allDigits (drop i bs) ≡ every (between zeroDigit nineDigit (getD bs i 0) ∷ allDigits (drop (i + 1) bs) ∷ [])
+  unfolding allDigits
+  digits-more = rw (drop-next bs i more)
+
+  pub digit-under : allDigits (drop i bs) ≡ allDigits bs → getD bs i 0 < zeroDigit → Unreadable ≡ numberOf bs
+  digit-under e p = odd-digit bs (sym e ∙ digits-more ∙ sym (every-stop _ _ (between-under zeroDigit nineDigit _ p)))
+
+  pub digit-over : allDigits (drop i bs) ≡ allDigits bs → nineDigit < getD bs i 0 → Unreadable ≡ numberOf bs
+  digit-over e p = odd-digit bs (sym e ∙ digits-more ∙ sym (every-stop _ _ (between-over zeroDigit nineDigit _ p)))
+
+  pub digits-step : zeroDigit ≤ getD bs i 0 → getD bs i 0 ≤ nineDigit → allDigits (drop i bs) ≡ allDigits bs → allDigits (drop (i + 1) bs) ≡ allDigits bs
+  digits-step p q e = every-pass _ _ _ (between-in zeroDigit nineDigit _ p q) (every-last _ _ refl) ∙ sym digits-more ∙ e
+
+  pub value-step : (sum d : ℕ) → d ≡ getD bs i 0 - zeroDigit → valueFrom sum (drop i bs) ≡ value bs → valueFrom (10 * sum + d) (drop (i + 1) bs) ≡ value bs
+  unfolding valueFrom
+  value-step sum d p e = rw p (rw (drop-next bs i more) at e)
+
+pub sum-step : (i sum b d : ℕ) → sum < 10 ^ i → b ≤ nineDigit → d ≡ b - zeroDigit → 10 * sum + d < 10 ^ (i + 1)
+sum-step i sum b d p q e = rw (add-one, pow-suc) (omega arith)
+
+-- ---- no sum of ten digits wraps
+
+sum-small : (i n sum : ℕ) → sum < 10 ^ i → i < n → n ≤ mostDigits → sum < 1000000000
+sum-small i n sum p l h =
+    let m : 10 ^ i ≤ 10 ^ 9 = pow-le-pow-right {n = 10} (omega arith) {i = i} {j = 9} (omega arith) in
+    omega arith
+
+pub ten-fits : (i n sum : ℕ) → sum < 10 ^ i → i < n → n ≤ mostDigits → 10 * sum < 2 ^ 64
+ten-fits i n sum p l h = omega (arith, sum-small i n sum p l h)
+
+pub sum-fits : (i n sum b d : ℕ) → sum < 10 ^ i → i < n → n ≤ mostDigits → b ≤ nineDigit → d ≡ b - zeroDigit → 10 * sum + d < 2 ^ 64
+sum-fits i n sum b d p l h q e = omega (arith, sum-small i n sum p l h)
+
+-- ---- all digits read
+
+pub number-read : (bs : List ℕ) (i sum : ℕ) → 1 ≤ length bs → length bs ≤ mostDigits → length bs ≤ i → allDigits (drop i bs) ≡ allDigits bs → valueFrom sum (drop i bs) ≡ value bs
+    → Read sum ≡ numberOf bs
+unfolding numberOf isNumber allDigits valueFrom
+number-read bs i sum p q l e v =
+    let d : true ≡ allDigits bs = rw (drop-of-length-le bs l) at e in
+    let w : sum ≡ value bs = rw (drop-of-length-le bs l) at v in
+    pick-true _ _ _ _ (sym (every-pass _ true _ (between-in 1 mostDigits _ p q) (every-pass _ true _ (sym d) every-end))) (ap Read w)
+
+pub ruleset reading = (number-short, number-long, digit-under, digit-over, digits-step, value-start, value-step, sum-start, sum-step, ten-fits, sum-fits, number-read, needs)

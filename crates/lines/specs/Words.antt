@@ -1,0 +1,54 @@
+-- The fixed words of `play`, in ASCII.
+use Prim.Native.Nat.{ℕ, suc}
+use mathlib.Core.List.{List, [], _∷_}
+use lib.Dec.{eqb}
+use Rattle.page.specs.Tests.{pick}
+
+-- "`O parts tempo` (first, once), `H event tempo`, `T ms`"
+abbrev pub openCommand : List ℕ
+openCommand = 79 ∷ 32 ∷ []
+
+abbrev pub hearCommand : List ℕ
+hearCommand = 72 ∷ 32 ∷ []
+
+abbrev pub passCommand : List ℕ
+passCommand = 84 ∷ 32 ∷ []
+
+-- "It prints `open N parts C`"
+abbrev pub openWord : List ℕ
+openWord = 111 ∷ 112 ∷ 101 ∷ 110 ∷ 32 ∷ []
+
+abbrev pub partsWord : List ℕ
+partsWord = 32 ∷ 112 ∷ 97 ∷ 114 ∷ 116 ∷ 115 ∷ 32 ∷ []
+
+-- "`no N` for a refused call"
+abbrev pub noWord : List ℕ
+noWord = 110 ∷ 111 ∷ 32 ∷ []
+
+-- "`bad L` for line L"
+abbrev pub badWord : List ℕ
+badWord = 98 ∷ 97 ∷ 100 ∷ 32 ∷ []
+
+-- "`end K sent S`"
+abbrev pub endWord : List ℕ
+endWord = 101 ∷ 110 ∷ 100 ∷ 32 ∷ []
+
+abbrev pub sentWord : List ℕ
+sentWord = 32 ∷ 115 ∷ 101 ∷ 110 ∷ 116 ∷ 32 ∷ []
+
+abbrev pub space : ℕ
+space = 32
+
+abbrev pub newline : ℕ
+newline = 10
+
+abbrev pub zeroDigit : ℕ
+zeroDigit = 48
+
+abbrev pub nineDigit : ℕ
+nineDigit = 57
+
+-- How many bytes stand before the first that is this one.
+unfoldable pub bytesBefore : ℕ → List ℕ → ℕ
+bytesBefore stop [] = 0
+bytesBefore stop (b ∷ bs) = pick (eqb b stop) 0 (suc (bytesBefore stop bs))
