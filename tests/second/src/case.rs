@@ -1,0 +1,79 @@
+//! One seed's random case: a score file, or none, and commands.
+
+use crate::play::play;
+use crate::random::Random;
+use crate::{commands, damage, scores};
+use std::fs;
+use std::io;
+use std::path::Path;
+
+pub const SCORE: &str = "score.bin";
+pub const COMMANDS: &str = "commands";
+
+pub enum ScoreFile {
+    Bytes(Vec<u8>),
+    Missing,
+    /// There, but a folder: it can't be read and counts as missing.
+    Folder,
+}
+
+pub struct Case {
+    pub score: ScoreFile,
+    pub commands: Vec<u8>,
+}
+
+impl Case {
+    pub fn of_seed(seed: u64) -> Case {
+        let random = &mut Random::new(seed);
+        let invented = scores::invent(random);
+        let commands = commands::invent(random, &invented);
+        let score = match random.below(200) {
+            0..=1 => ScoreFile::Missing,
+            2 => ScoreFile::Folder,
+            3..=16 => ScoreFile::Bytes(damage::damaged(random, invented.tables)),
+            17..=22 => ScoreFile::Bytes(damage::fine(random, invented.tables)),
+            _ => ScoreFile::Bytes(invented.tables.encode()),
+        };
+        Case { score, commands }
+    }
+
+    /// What `play` must write.
+    pub fn expected(&self) -> Vec<u8> {
+        let file = match &self.score {
+            ScoreFile::Bytes(bytes) => bytes,
+            ScoreFile::Missing | ScoreFile::Folder => &Vec::new(),
+        };
+        play(file, &self.commands)
+    }
+
+    /// Writes both files into a folder that is there.
+    pub fn write(&self, folder: &Path) -> io::Result<()> {
+        self.write_score(folder)?;
+        fs::write(folder.join(COMMANDS), &self.commands)
+    }
+
+    pub fn write_score(&self, folder: &Path) -> io::Result<()> {
+        let score = folder.join(SCORE);
+        if score.is_dir() {
+            fs::remove_dir(&score)?;
+        } else if score.exists() {
+            fs::remove_file(&score)?;
+        }
+        match &self.score {
+            ScoreFile::Bytes(bytes) => fs::write(&score, bytes),
+            ScoreFile::Missing => Ok(()),
+            ScoreFile::Folder => fs::create_dir(&score),
+        }
+    }
+}
+
+/// One file for the file check: about half of them damaged.
+pub fn file_of_seed(seed: u64) -> Vec<u8> {
+    let random = &mut Random::new(seed);
+    let tables = scores::invent(random).tables;
+    if random.percent(45) {
+        tables.encode()
+    } else {
+        damage::damaged(random, tables)
+    }
+}

@@ -1,0 +1,183 @@
+//! What Poolmirror must do, worked out a second time from the paper alone, and
+//! a comparison with any program that should do it.
+
+mod case;
+mod commands;
+mod compare;
+mod damage;
+mod mutant;
+mod noise;
+mod play;
+mod random;
+mod rules;
+mod score;
+mod scores;
+mod session;
+mod words;
+
+use case::Case;
+use std::ffi::OsString;
+use std::fs;
+use std::io::{self, BufWriter, Read, Write};
+use std::path::{Path, PathBuf};
+use std::process::ExitCode;
+
+const USAGE: &str = "usage:
+  second check FILE
+  second answer DIR
+  second make SEED DIR
+  second compare --runs N --seed S [--threads T] [--keep DIR] -- CMD ARG..
+  second files SEED COUNT OUT
+  second noise SEED LINES
+  second words";
+
+/// What went wrong; bad arguments show the usage.
+enum Fault {
+    Arguments,
+    Other(String),
+}
+
+impl From<io::Error> for Fault {
+    fn from(error: io::Error) -> Fault {
+        Fault::Other(error.to_string())
+    }
+}
+
+fn main() -> ExitCode {
+    let arguments: Vec<OsString> = std::env::args_os().skip(1).collect();
+    match run(&arguments) {
+        Ok(true) => ExitCode::SUCCESS,
+        Ok(false) => ExitCode::from(1),
+        Err(Fault::Arguments) => {
+            eprintln!("{USAGE}");
+            ExitCode::from(2)
+        }
+        Err(Fault::Other(why)) => {
+            eprintln!("second: {why}");
+            ExitCode::from(2)
+        }
+    }
+}
+
+/// Runs one command; false where something failed that was tested.
+fn run(arguments: &[OsString]) -> Result<bool, Fault> {
+    mutant::from_environment().map_err(Fault::Other)?;
+    let Some((command, rest)) = arguments.split_first() else {
+        return Err(Fault::Arguments);
+    };
+    match (command.to_str().unwrap_or(""), rest) {
+        ("check", [file]) => check(Path::new(file)),
+        ("answer", [folder]) => answer(Path::new(folder)),
+        ("make", [seed, folder]) => make(number(seed)?, Path::new(folder)),
+        ("compare", rest) => compare(rest),
+        ("files", [seed, count, out]) => files(number(seed)?, number(count)?, Path::new(out)),
+        ("noise", [seed, lines]) => {
+            io::stdout().write_all(&noise::commands(number(seed)?, number(lines)?))?;
+            Ok(true)
+        }
+        ("words", []) => Ok(tally(words::words())),
+        _ => Err(Fault::Arguments),
+    }
+}
+
+fn number(argument: &OsString) -> Result<u64, Fault> {
+    argument
+        .to_str()
+        .and_then(|text| text.parse().ok())
+        .ok_or(Fault::Arguments)
+}
+
+fn tally((passed, failed): (u64, u64)) -> bool {
+    println!("{passed} passed, {failed} failed");
+    failed == 0
+}
+
+fn check(file: &Path) -> Result<bool, Fault> {
+    let (number, place) = score::check(&fs::read(file)?);
+    println!("{number} {place}");
+    Ok(true)
+}
+
+fn answer(folder: &Path) -> Result<bool, Fault> {
+    let file = fs::read(folder.join(case::SCORE)).unwrap_or_default();
+    let commands = folder.join(case::COMMANDS);
+    let mut input = Vec::new();
+    if commands.exists() {
+        input = fs::read(commands)?;
+    } else {
+        io::stdin().read_to_end(&mut input)?;
+    }
+    io::stdout().write_all(&play::play(&file, &input))?;
+    Ok(true)
+}
+
+fn make(seed: u64, folder: &Path) -> Result<bool, Fault> {
+    fs::create_dir_all(folder)?;
+    Case::of_seed(seed).write(folder)?;
+    Ok(true)
+}
+
+/// For each file its length (u32, little-endian) and its bytes into `out`; its
+/// number and the reply that it must get on a line of its own.
+fn files(seed: u64, count: u64, out: &Path) -> Result<bool, Fault> {
+    let mut batch = BufWriter::new(fs::File::create(out)?);
+    let mut lines = BufWriter::new(io::stdout().lock());
+    for index in 0..count {
+        let file = case::file_of_seed(seed.wrapping_add(index));
+        let name = index.to_string();
+        batch.write_all(&(name.len() as u32).to_le_bytes())?;
+        batch.write_all(name.as_bytes())?;
+        batch.write_all(&(file.len() as u32).to_le_bytes())?;
+        batch.write_all(&index.to_le_bytes())?;
+        batch.write_all(&file)?;
+        let (number, place) = score::check(&file);
+        writeln!(lines, "{index} {number} {place}")?;
+    }
+    batch.flush()?;
+    lines.flush()?;
+    Ok(true)
+}
+
+fn compare(arguments: &[OsString]) -> Result<bool, Fault> {
+    let (mut runs, mut seed, mut threads, mut keep) = (None, None, 2, None);
+    let mut rest = arguments;
+    let program = loop {
+        match rest {
+            [word, program @ ..] if word == "--" => break program,
+            [word, value, others @ ..] => {
+                match word.to_str() {
+                    Some("--runs") => runs = Some(number(value)?),
+                    Some("--seed") => seed = Some(number(value)?),
+                    Some("--threads") => threads = number(value)?,
+                    Some("--keep") => keep = Some(std::path::absolute(PathBuf::from(value))?),
+                    _ => return Err(Fault::Arguments),
+                }
+                rest = others;
+            }
+            _ => return Err(Fault::Arguments),
+        }
+    };
+    let (Some(runs @ 1..), Some(seed)) = (runs, seed) else {
+        return Err(Fault::Arguments);
+    };
+    if program.is_empty() || threads == 0 {
+        return Err(Fault::Arguments);
+    }
+    let words: Vec<_> = program.iter().map(|word| word.to_string_lossy()).collect();
+    println!("seeds {seed} to {}", seed.wrapping_add(runs - 1));
+    println!(
+        "one seed alone: second compare --runs 1 --seed SEED -- {}",
+        words.join(" ")
+    );
+    match mutant::from_environment() {
+        Ok(0) | Err(_) => {}
+        Ok(number) => println!("expected by wrong rule {number}"),
+    }
+    Ok(tally(compare::compare(compare::Plan {
+        runs,
+        seed,
+        threads,
+        keep,
+        program: program.to_vec(),
+    })))
+}

@@ -1,0 +1,44 @@
+//! One wrong rule at a time, so that it can be seen that a comparison fails
+//! where it should. Without the variable every rule is the paper's.
+
+use std::sync::OnceLock;
+
+pub const VARIABLE: &str = "SECOND_MUTANT";
+pub const LAST: u32 = 18;
+
+pub const EXACTLY_E_J_IS_PAST: u32 = 1;
+pub const SLICE_FROM_THE_MISSED_EVENT: u32 = 2;
+pub const GROUP_DELAY_LOST: u32 = 3;
+pub const GLOBAL_KEEPS_ITS_DATE: u32 = 4;
+pub const PARTIAL_PLAYS_PAST_ACTIONS: u32 = 5;
+pub const PARTS_SHARE_A_SEQUENCE: u32 = 6;
+pub const CAUSAL_NOT_SPLIT: u32 = 7;
+pub const DUE_DATES_RESTART: u32 = 8;
+pub const SENT_BY_PAGE_ONLY: u32 = 9;
+pub const PARTIAL_DROPS_PAST_GROUPS: u32 = 10;
+pub const MISSED_SLICE_HEARD: u32 = 11;
+pub const MISSED_TOP_IS_CAUSAL: u32 = 12;
+pub const BYTE_127_ACCEPTED: u32 = 13;
+pub const EXACTLY_E_K_GOES_BEFORE: u32 = 14;
+pub const DROPPED_ACTIONS_TAKE_THEIR_DELAY: u32 = 15;
+pub const FUTURE_BECOMES_LOOSE: u32 = 16;
+pub const TEMPO_CHECKED_FIRST: u32 = 17;
+pub const DEPTH_NINE_ACCEPTED: u32 = 18;
+
+/// The number in the environment, 0 without one; an unreadable one is an error
+/// so that a slip is never taken for a run without a mutant.
+pub fn from_environment() -> Result<u32, String> {
+    let Some(value) = std::env::var_os(VARIABLE) else {
+        return Ok(0);
+    };
+    let number = value.to_str().and_then(|text| text.parse::<u32>().ok());
+    match number {
+        Some(number) if (1..=LAST).contains(&number) => Ok(number),
+        _ => Err(format!("{VARIABLE} must be 1 to {LAST}")),
+    }
+}
+
+pub fn is(number: u32) -> bool {
+    static CHOSEN: OnceLock<u32> = OnceLock::new();
+    *CHOSEN.get_or_init(|| from_environment().unwrap_or(0)) == number
+}
