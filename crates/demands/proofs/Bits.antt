@@ -6,7 +6,7 @@ use mathlib.Core.Bool.{Bool, true, false}
 use native.Mathlib.Omega.{arith}
 use lib.Dec.{eqb}
 use borrow.Author.Tests.{eqb-true, eqb-false, eq-eqb}
-use Rattle.page.specs.Tests.{pick}
+use Rattle.base.specs.Tests.{pick}
 use Rattle.sequencer.specs.Sending.{halvings, sounds}
 use Rattle.demands.specs.Demands.{either}
 

@@ -9,7 +9,7 @@ use native.Mathlib.Omega.{arith}
 use lib.Dec.{leb}
 use lib.ListN.{length}
 use borrow.Author.Tests.{leb-true, le-leb}
-use Rattle.page.specs.Tests.{pick}
+use Rattle.base.specs.Tests.{pick}
 use Rattle.rules.specs.Score.{Seq, end, action, group}
 use Rattle.rules.specs.Heard.{taken}
 use Rattle.rules.specs.Rules.{Reading, readingOf, Outcome, played, dropped, undecided, Line, line, waiting, fateOf, outcomeOf, enter, run, top, perform}

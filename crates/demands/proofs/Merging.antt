@@ -6,8 +6,8 @@ use Prim.Native.Nat.{ℕ, _≤_, _<_}
 use mathlib.Core.Bool.{Bool, true, false}
 use mathlib.Core.List.{List, [], _∷_}
 use native.Mathlib.Omega.{arith}
-use Rattle.page.specs.Tests.{pick}
-use Rattle.rules.specs.Parts.{only}
+use Rattle.base.specs.Tests.{pick}
+use Rattle.base.specs.Only.{only}
 use Rattle.demands.specs.Messages.{Sent, insert, order}
 use Rattle.demands.specs.Demands.{either, onlyParts, comesBefore, weave, merge}
 use Rattle.demands.proofs.Ordered.{insert-ahead, insert-behind, Place, ahead, behind, place}

@@ -11,7 +11,7 @@ use lib.Dec.{eqb}
 use lib.ListN.{length}
 use borrow.Author.Tests.{leb-true, le-leb, eqb-true, ne-eqb}
 use Rattle.page.specs.declared.Item.{Item}
-use Rattle.page.specs.Tests.{pick}
+use Rattle.base.specs.Tests.{pick}
 use Rattle.rules.specs.Rules.{readingOf, Outcome, played, dropped, undecided}
 use Rattle.rules.specs.Page.{Entry, entries, Cue, cues}
 use Rattle.sequencer.specs.Calls.{Grant, granted, refused}

@@ -10,8 +10,8 @@ use native.Mathlib.Nat.{le-refl}
 use lib.Dec.{eqb}
 use lib.ListN.{length}
 use borrow.Author.Tests.{ltb-true, eq-eqb, ne-eqb}
-use Rattle.page.specs.Tests.{pick}
-use Rattle.page.proofs.TestLaws.{between-low, between-high}
+use Rattle.base.specs.Tests.{pick}
+use Rattle.base.proofs.TestLaws.{between-low, between-high}
 use Rattle.rules.specs.Rules.{readingOf, Outcome, played, dropped, undecided}
 use Rattle.rules.specs.Page.{Entry, Cue, cues}
 use Rattle.rules.specs.Settled.{Below, nothing-heard, heard-before, Settles, stays, drops, plays, SettledCues, no-cues, settled-cue}

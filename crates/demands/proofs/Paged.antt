@@ -7,8 +7,8 @@ use mathlib.Core.List.{List, [], _∷_, List·Memᴰ, List·Memᴰ·head, List·
 use native.Mathlib.Omega.{arith}
 use lib.Dec.{ltb, eqb}
 use borrow.Author.Tests.{ltb-true, ltb-false, lt-ltb, le-ltb, eqb-false, ne-eqb}
-use Rattle.page.specs.Tests.{pick}
-use Rattle.rules.specs.Parts.{only}
+use Rattle.base.specs.Tests.{pick}
+use Rattle.base.specs.Only.{only}
 use Rattle.demands.specs.Messages.{Sent, insert, order}
 use Rattle.demands.specs.Demands.{onlyParts, comesBefore, InOrder, no-more, then}
 use Rattle.demands.proofs.Ordered.{insert-ahead, insert-behind, Place, ahead, behind, place, in-insert}

@@ -6,10 +6,11 @@ use Prim.Native.Nat.{ℕ}
 use mathlib.Core.Bool.{Bool, true, false}
 use mathlib.Core.List.{List, [], _∷_, map}
 use lib.ListN.{length}
-use Rattle.page.specs.Tests.{pick}
+use Rattle.base.specs.Tests.{pick}
 use Rattle.rules.specs.Rules.{Reading, readingOf, Outcome, played, dropped, undecided}
 use Rattle.rules.specs.Page.{Entry, Cue, cues}
-use Rattle.rules.specs.Parts.{only, soundingEntries, soundingCues}
+use Rattle.base.specs.Only.{only}
+use Rattle.rules.specs.Parts.{soundingEntries, soundingCues}
 use Rattle.rules.proofs.OwnPart.{own-part}
 use Rattle.sequencer.specs.Calls.{Grant, granted, refused}
 use Rattle.demands.specs.History.{Call, note, pass, report, lookUp, Now, heardEvents, after}

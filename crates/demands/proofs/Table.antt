@@ -9,8 +9,8 @@ use native.Mathlib.Nat.{le-refl}
 use lib.ListN.{length, take, drop, length-take, length-drop, take-append-drop}
 use borrow.Author.Tests.{eqb-true, eq-eqb, ne-eqb}
 use Rattle.page.specs.declared.Item.{Item}
-use Rattle.page.specs.Tests.{pick}
-use Rattle.page.proofs.TestLaws.{every-head, every-rest, between-low}
+use Rattle.base.specs.Tests.{pick}
+use Rattle.base.proofs.TestLaws.{every-head, every-rest, between-low}
 use Rattle.score.specs.declared.Verdict.the-variants.{Fine}
 use Rattle.score.specs.declared.Walk.{Walk}
 use Rattle.score.specs.declared.Walk.the-variants.{Actions, Stop}

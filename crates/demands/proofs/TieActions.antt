@@ -11,7 +11,7 @@ use lib.ListN.{length, length-append}
 use lib.Seq.{take-at, drop-at}
 use borrow.Author.Tests.{eqb-true, eqb-false}
 use Rattle.page.specs.declared.Item.{Item}
-use Rattle.page.specs.Tests.{pick, every}
+use Rattle.base.specs.Tests.{pick, every}
 use Rattle.score.specs.Contents.{countsOf}
 use Rattle.score.specs.Piece.{decode}
 use Rattle.score.specs.File.{Accepted}

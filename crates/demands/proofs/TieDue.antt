@@ -10,7 +10,7 @@ use lib.ListN.{length, set, length-set}
 use lib.Seq.{getD-set-same, getD-set-other}
 use borrow.Author.Tests.{leb-true, leb-false, le-leb, lt-leb}
 use Rattle.page.specs.declared.Item.{Item}
-use Rattle.page.specs.Tests.{pick, every}
+use Rattle.base.specs.Tests.{pick, every}
 use Rattle.evaluators.specs.Fields.{itemIn}
 use Rattle.sequencer.specs.Layout.{memorySize, pageAt, slotsAt, wordAt}
 use Rattle.sequencer.specs.Sending.{isDue, messageAt, dueFrom, firedFrom}

@@ -11,8 +11,8 @@ use lib.ListN.{length, take, drop, length-drop, take-append-drop}
 use lib.Seq.{length-take-le}
 use borrow.Author.Tests.{eqb-true, eq-eqb, ne-eqb, leb-true}
 use Rattle.page.specs.declared.Item.{Item}
-use Rattle.page.specs.Tests.{pick}
-use Rattle.page.proofs.TestLaws.{every-head, every-rest, between-low, between-high}
+use Rattle.base.specs.Tests.{pick}
+use Rattle.base.proofs.TestLaws.{every-head, every-rest, between-low, between-high}
 use Rattle.score.specs.declared.Verdict.the-variants.{Fine}
 use Rattle.score.specs.declared.Walk.the-variants.{Actions}
 use Rattle.score.specs.declared.Counts.{Counts}

@@ -10,7 +10,7 @@ use lib.Seq.{drop-cons}
 use lib.Count.{ones}
 use borrow.Author.Tests.{le-leb}
 use Rattle.page.specs.declared.Item.{Item}
-use Rattle.page.specs.Tests.{pick, between}
+use Rattle.base.specs.Tests.{pick, between}
 use Rattle.score.specs.Piece.{decode}
 use Rattle.score.specs.File.{Accepted}
 use Rattle.rules.specs.Heard.{taken}

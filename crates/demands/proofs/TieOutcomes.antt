@@ -7,7 +7,7 @@ use mathlib.Core.List.{List, [], _∷_, _++_, append-assoc}
 use native.Mathlib.Omega.{arith}
 use lib.ListN.{length}
 use Rattle.page.specs.declared.Item.{Item}
-use Rattle.page.specs.Tests.{pick}
+use Rattle.base.specs.Tests.{pick}
 use Rattle.rules.specs.Rules.{Reading, Outcome, played, dropped, undecided, perform}
 use Rattle.rules.specs.Page.{Entry, entries, Cue, cast, cues}
 use Rattle.rules.specs.Written.{written, actionsIn}

@@ -10,7 +10,7 @@ use lib.ListN.{length, set, length-set}
 use lib.Seq.{getD-set-same, getD-set-other}
 use borrow.Author.Tests.{leb-true, leb-false, ne-eqb}
 use Rattle.page.specs.declared.Item.{Item}
-use Rattle.page.specs.Tests.{pick, every}
+use Rattle.base.specs.Tests.{pick, every}
 use Rattle.rules.specs.Rules.{Outcome}
 use Rattle.rules.specs.Page.{Cue}
 use Rattle.evaluators.specs.Fields.{itemIn}

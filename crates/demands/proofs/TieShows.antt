@@ -8,7 +8,7 @@ use native.Mathlib.Omega.{arith}
 use lib.Dec.{eqb}
 use lib.ListN.{length}
 use Rattle.page.specs.declared.Item.{Item}
-use Rattle.page.specs.Tests.{pick, every}
+use Rattle.base.specs.Tests.{pick, every}
 use Rattle.rules.specs.Written.{Written, written}
 use Rattle.evaluators.specs.Fields.{itemIn}
 use Rattle.sequencer.specs.Layout.{pageAt, clockAt, slotsAt, wordAt}

@@ -7,7 +7,7 @@ use mathlib.Core.List.{List, [], _∷_, _++_, List·Memᴰ, List·Memᴰ·head, 
 use native.Mathlib.Omega.{arith}
 use lib.Dec.{eqb}
 use borrow.Author.Tests.{leb-true, leb-false}
-use Rattle.page.specs.Tests.{pick}
+use Rattle.base.specs.Tests.{pick}
 use Rattle.rules.specs.Rules.{Outcome, played, dropped, undecided}
 use Rattle.rules.specs.Page.{Entry, Cue}
 use Rattle.sequencer.specs.Calls.{Grant, granted, refused}

@@ -5,10 +5,10 @@ use mathlib.Core.Bool.{Bool, true, false}
 use mathlib.Core.List.{List, [], _∷_, _++_, List·Memᴰ}
 use lib.Dec.{eqb, ltb}
 use lib.ListN.{length}
-use Rattle.page.specs.Tests.{pick}
+use Rattle.base.specs.Tests.{pick}
 use Rattle.score.specs.Piece.{decode}
 use Rattle.rules.specs.Page.{Entry, entries}
-use Rattle.rules.specs.Parts.{only}
+use Rattle.base.specs.Only.{only}
 use Rattle.demands.specs.History.{Call, Now, start, after}
 use Rattle.demands.specs.Messages.{Sent, sounding, sentBetween}
 use Rattle.demands.specs.Answers.{Answer, sending, reporting, looking, messagesAt}

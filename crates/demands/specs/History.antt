@@ -4,7 +4,7 @@ use mathlib.Core.Bool.{Bool, true, false}
 use mathlib.Core.List.{List, [], _∷_, _++_}
 use lib.Dec.{leb, ltb}
 use lib.ListN.{length}
-use Rattle.page.specs.Tests.{between}
+use Rattle.base.specs.Tests.{between}
 use Rattle.sequencer.specs.declared.Refusal.the-variants.{RoomShort, NoEvent, NotAfter, BadTempo, BadMillis, ClockFull}
 use Rattle.sequencer.specs.Layout.{roomSize, mostTempo, mostMillis, clockEnd}
 use Rattle.sequencer.specs.Calls.{must, Grant, granted, refused, firstOf}

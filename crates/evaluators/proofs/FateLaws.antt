@@ -8,7 +8,7 @@ use native.Mathlib.Omega.{arith}
 use lib.Dec.{ltb}
 use borrow.Author.Needs.{needs}
 use Rattle.units.specs.declared.Grains.{Grains}
-use Rattle.page.specs.Tests.{pick}
+use Rattle.base.specs.Tests.{pick}
 use Rattle.rules.specs.declared.Synchrony.{Synchrony}
 use Rattle.rules.specs.declared.Synchrony.the-variants.{Loose as loose, Tight as tight}
 use Rattle.rules.specs.declared.ErrorWord.{ErrorWord}

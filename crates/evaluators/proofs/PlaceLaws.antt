@@ -10,7 +10,7 @@ use lib.ListN.{length, getD, set, take, drop, length-set, length-take, length-dr
 use lib.Seq.{take-set-le, drop-set-lt, getD-set-same, getD-set-other}
 use borrow.Author.Tests.{leb-true, leb-false}
 use Rattle.page.specs.declared.Item.{Item}
-use Rattle.page.specs.Tests.{pick}
+use Rattle.base.specs.Tests.{pick}
 use Rattle.rules.specs.Score.{Seq, end, action, group}
 use Rattle.rules.specs.Rules.{Reading, Holder, Line, line, run, top, perform}
 use Rattle.rules.specs.Page.{levels, sequenceOf, goesOn, runLength, entriesOf, entries, Cue, cast, cues}

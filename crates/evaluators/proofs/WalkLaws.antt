@@ -11,7 +11,7 @@ use borrow.Author.Tests.{eq-eqb, ne-eqb, eqb-true, eqb-false}
 use borrow.Author.Needs.{needs}
 use Rattle.units.specs.declared.Grains.{Grains}
 use Rattle.page.specs.declared.Item.{Item}
-use Rattle.page.specs.Tests.{pick}
+use Rattle.base.specs.Tests.{pick}
 use Rattle.rules.specs.declared.Synchrony.{Synchrony}
 use Rattle.rules.specs.declared.Synchrony.the-variants.{Loose as loose}
 use Rattle.rules.specs.declared.ErrorWord.{ErrorWord}

@@ -11,8 +11,8 @@ use lib.Seq.{take-all, length-take-le}
 use lib.Dec.{leb, eqb}
 use borrow.Author.Tests.{le-leb, lt-leb}
 use borrow.Author.Needs.{needs}
-use Rattle.page.specs.Tests.{pick, every, between}
-use Rattle.page.proofs.TestLaws.{every-pass, every-stop, every-end, pick-true, pick-false}
+use Rattle.base.specs.Tests.{pick, every, between}
+use Rattle.base.proofs.TestLaws.{every-pass, every-stop, every-end, pick-true, pick-false}
 use Rattle.lines.specs.declared.numbers.Number.{Number}
 use Rattle.lines.specs.declared.numbers.Number.the-variants as number
 use Rattle.lines.specs.declared.commands.Pair.{Pair}

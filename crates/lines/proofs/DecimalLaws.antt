@@ -10,8 +10,8 @@ use lib.ListN.{length, getD, length-append, List·getD-append}
 use lib.Dec.{ltb}
 use borrow.Author.Tests.{lt-ltb, le-ltb, ltb-true, ltb-false}
 use borrow.Author.Needs.{needs}
-use Rattle.page.specs.Tests.{pick, every}
-use Rattle.page.proofs.TestLaws.{every-pass, every-end, every-head, every-rest, between-in}
+use Rattle.base.specs.Tests.{pick, every}
+use Rattle.base.proofs.TestLaws.{every-pass, every-end, every-head, every-rest, between-in}
 use Rattle.lines.specs.Words.{zeroDigit, nineDigit}
 use Rattle.lines.specs.Numbers.{allDigits, valueFrom, value}
 use Rattle.lines.specs.Output.{mostPlaces, digitsOf, decimal}

@@ -3,7 +3,7 @@
 use mathlib.Core.Path.{_≡_, refl}
 use mathlib.Core.List.{List, [], _∷_, map}
 use Prim.Native.Nat.{ℕ}
-use Rattle.page.specs.Tests.{pick, every, between}
+use Rattle.base.specs.Tests.{pick, every, between}
 use Rattle.lines.specs.declared.Command.the-variants.{Open, Hear, Pass, Bad}
 use Rattle.lines.specs.Words.{bytesBefore}
 use Rattle.lines.specs.Numbers.{allDigits, isNumber, valueFrom, value}

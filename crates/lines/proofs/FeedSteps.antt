@@ -10,7 +10,7 @@ use lib.Seq.{take-all, take-take, take-append-add, length-take-le}
 use lib.Dec.{leb, ltb}
 use borrow.Author.Tests.{leb-true, leb-false, lt-ltb, le-ltb}
 use borrow.Author.Needs.{needs}
-use Rattle.page.proofs.TestLaws.{pick-true, pick-false}
+use Rattle.base.proofs.TestLaws.{pick-true, pick-false}
 use Rattle.lines.specs.Words.{newline, bytesBefore}
 use Rattle.lines.specs.Input.{keptBytes, lineLength, keptLine, fedOf, Feedable, Feeds}
 use Rattle.lines.specs.Laying.{Laid}

@@ -9,8 +9,8 @@ use lib.ListN.{length, take, drop, length-take, length-drop}
 use lib.Seq.{take-all, take-length, take-append-add, length-take-le}
 use lib.Dec.{leb, eqb}
 use borrow.Author.Tests.{leb-true, leb-false}
-use Rattle.page.specs.Tests.{pick, every}
-use Rattle.page.proofs.TestLaws.{every-stop, pick-false}
+use Rattle.base.specs.Tests.{pick, every}
+use Rattle.base.proofs.TestLaws.{every-stop, pick-false}
 use Rattle.lines.specs.declared.Command.the-variants.{Bad}
 use Rattle.lines.specs.Words.{space, newline, bytesBefore}
 use Rattle.lines.specs.Numbers.{mostDigits, isNumber}

@@ -9,8 +9,8 @@ use native.Mathlib.Numerals.{add-one}
 use native.Mathlib.Omega.{arith}
 use lib.ListN.{length, drop, getD, drop-of-length-le}
 use borrow.Author.Needs.{needs}
-use Rattle.page.specs.Tests.{every, between}
-use Rattle.page.proofs.TestLaws.{every-pass, every-stop, every-last, every-end, between-in, between-under, between-over, pick-true, pick-false}
+use Rattle.base.specs.Tests.{every, between}
+use Rattle.base.proofs.TestLaws.{every-pass, every-stop, every-last, every-end, between-in, between-under, between-over, pick-true, pick-false}
 use Rattle.lines.specs.declared.numbers.Number.the-variants.{Read, Unreadable}
 use Rattle.lines.specs.Words.{zeroDigit, nineDigit}
 use Rattle.lines.specs.Numbers.{mostDigits, allDigits, isNumber, valueFrom, value, numberOf}

@@ -4,7 +4,7 @@ use mathlib.Core.Bool.{Bool, true, false}
 use mathlib.Core.List.{List, [], _∷_}
 use lib.Dec.{leb, eqb}
 use lib.ListN.{take, drop}
-use Rattle.page.specs.Tests.{pick, every}
+use Rattle.base.specs.Tests.{pick, every}
 use Rattle.lines.specs.declared.Command.{Command}
 use Rattle.lines.specs.declared.Command.the-variants.{Open, Hear, Pass, Bad}
 use Rattle.lines.specs.declared.commands.Pair.{Pair}

@@ -3,7 +3,7 @@ use Prim.Native.Nat.{ℕ, _+_, _-_, _*_}
 use mathlib.Core.Bool.{Bool, true}
 use mathlib.Core.List.{List, [], _∷_}
 use lib.ListN.{length}
-use Rattle.page.specs.Tests.{pick, every, between}
+use Rattle.base.specs.Tests.{pick, every, between}
 use Rattle.lines.specs.declared.numbers.Number.{Number}
 use Rattle.lines.specs.declared.numbers.Number.the-variants.{Read, Unreadable}
 use Rattle.lines.specs.Words.{zeroDigit, nineDigit}

@@ -4,7 +4,7 @@ use mathlib.Core.Path.{_≡_}
 use mathlib.Core.List.{List, [], _∷_, _++_}
 use lib.Dec.{ltb}
 use lib.ListN.{length, take, drop}
-use Rattle.page.specs.Tests.{pick}
+use Rattle.base.specs.Tests.{pick}
 use Rattle.lines.specs.Words.{openWord, partsWord, noWord, badWord, endWord, sentWord, space, newline, zeroDigit}
 
 -- The digits of a number, without leading zeros. The first number bounds them: 20 are enough for 64 bits.

@@ -8,7 +8,7 @@ use native.Mathlib.Omega.{arith}
 use native.Mathlib.Nat.{add-zero, zero-add}
 use lib.Dec.{leb, eqb}
 use borrow.Author.Tests.{ltb-false, leb-true, leb-false, le-leb, lt-leb, eqb-true, eqb-false, ne-eqb, le-ltb, not-true}
-use Rattle.page.specs.Tests.{pick}
+use Rattle.base.specs.Tests.{pick}
 use Rattle.rules.specs.Words.{Synchrony, loose, tight, ErrorWord, local, global, partial, causal}
 use Rattle.rules.specs.Score.{Seq, end, action, group}
 use Rattle.rules.specs.Heard.{Taken, heard, missed, unsettled}

@@ -11,11 +11,12 @@ use lib.ListN.{length, take, drop, length-append, length-take, length-drop, take
 use lib.Seq.{take-at, drop-at}
 use borrow.Author.Tests.{eqb-true, eqb-false, eq-eqb, ne-eqb}
 use Rattle.page.specs.declared.Item.{Item}
-use Rattle.page.specs.Tests.{pick}
+use Rattle.base.specs.Tests.{pick}
 use Rattle.rules.specs.Score.{Seq}
 use Rattle.rules.specs.Rules.{Reading}
 use Rattle.rules.specs.Page.{levels, sequenceOf, Entry, goesOn, runLength, entriesOf, entries, cues}
-use Rattle.rules.specs.Parts.{only, soundingEntries, soundingItems, soundingCues, placeless, Standing, no-items, within-group, next-event, same-event}
+use Rattle.base.specs.Only.{only}
+use Rattle.rules.specs.Parts.{soundingEntries, soundingItems, soundingCues, placeless, Standing, no-items, within-group, next-event, same-event}
 use Rattle.rules.proofs.OwnPart.{only-append, own-part}
 use Rattle.rules.proofs.Placeless.{bareEntries, same-but-places, sequence-bare}
 

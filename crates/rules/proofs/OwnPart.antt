@@ -4,10 +4,11 @@ use mathlib.Core.Path.{_≡_, refl, ap, ap₂, sym, _∙_}
 use Prim.Native.Nat.{ℕ}
 use mathlib.Core.Bool.{Bool, true, false}
 use mathlib.Core.List.{List, [], _∷_, _++_}
-use Rattle.page.specs.Tests.{pick}
+use Rattle.base.specs.Tests.{pick}
 use Rattle.rules.specs.Rules.{Reading, Line, line, perform}
 use Rattle.rules.specs.Page.{Entry, cast, cues}
-use Rattle.rules.specs.Parts.{only, soundingEntries, soundingCues}
+use Rattle.base.specs.Only.{only}
+use Rattle.rules.specs.Parts.{soundingEntries, soundingCues}
 
 pub only-append {ℓ} : {A : Type ℓ} (T : A → Bool) (l k : List A) → only T (l ++ k) ≡ only T l ++ only T k
 unfolding only pick

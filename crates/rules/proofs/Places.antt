@@ -10,7 +10,7 @@ use lib.Dec.{leb, eqb}
 use lib.ListN.{length, take, drop, length-take, length-drop, drop-of-length-le}
 use borrow.Author.Tests.{leb-true, leb-false}
 use Rattle.page.specs.declared.Item.{Item}
-use Rattle.page.specs.Tests.{pick}
+use Rattle.base.specs.Tests.{pick}
 use Rattle.rules.specs.Score.{end}
 use Rattle.rules.specs.Rules.{Reading}
 use Rattle.rules.specs.Page.{levels, sequenceOf, goesOn, runLength, entriesOf, entries, cues}

@@ -6,7 +6,7 @@ use mathlib.Core.Bool.{Bool, true, false}
 use mathlib.Core.List.{List, [], _∷_, _++_, append-assoc}
 use native.Mathlib.Omega.{arith}
 use native.Mathlib.Nat.{add-assoc}
-use Rattle.page.specs.Tests.{pick}
+use Rattle.base.specs.Tests.{pick}
 use Rattle.rules.specs.Words.{Synchrony, ErrorWord}
 use Rattle.rules.specs.Score.{Seq, end, action, group}
 use Rattle.rules.specs.Rules.{Reading, Fate, Holder, fateOf, outcomeOf, Outcome, played, dropped, undecided, enter, Line, line, run, Triple, triples, keep}

@@ -6,7 +6,7 @@ use mathlib.Core.List.{List, [], _∷_, _++_, List·Memᴰ}
 use native.Mathlib.Omega.{arith}
 use lib.ListN.{length}
 use borrow.Author.Tests.{eq-eqb, ne-eqb}
-use Rattle.page.specs.Tests.{pick}
+use Rattle.base.specs.Tests.{pick}
 use Rattle.rules.specs.Score.{Seq, end, action, group}
 use Rattle.rules.specs.Heard.{heard, taken}
 use Rattle.rules.specs.Rules.{Reading, readingOf, Fate, heardAt, missedBy, groupsOnly, nothing, notYet, Holder, fateOf, Outcome, played, dropped, undecided, outcomeOf, enter, Line, line, run, top, perform, Triple, keep, triples}

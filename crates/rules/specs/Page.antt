@@ -5,7 +5,7 @@ use mathlib.Core.List.{List, [], _∷_, _++_}
 use lib.Dec.{eqb}
 use lib.ListN.{length, take, drop}
 use Rattle.page.specs.declared.Item.{Item}
-use Rattle.page.specs.Tests.{pick}
+use Rattle.base.specs.Tests.{pick}
 use Rattle.rules.specs.Words.{synchronyOf, errorOf}
 use Rattle.rules.specs.Score.{Seq, end, action, group}
 use Rattle.rules.specs.Rules.{Reading, Outcome, Line, line, perform}

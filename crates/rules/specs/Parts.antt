@@ -4,13 +4,8 @@ use Prim.Native.Nat.{ℕ, _≤_, _<_}
 use mathlib.Core.Bool.{Bool}
 use mathlib.Core.List.{List, [], _∷_}
 use Rattle.page.specs.declared.Item.{Item}
-use Rattle.page.specs.Tests.{pick}
+use Rattle.base.specs.Only.{only}
 use Rattle.rules.specs.Page.{Entry, Cue}
-
--- Those that pass the test, in order.
-unfoldable pub only {ℓ} : {A : Type ℓ} → (A → Bool) → List A → List A
-only T [] = []
-only T (x ∷ l) = pick (T x) (x ∷ only T l) (only T l)
 
 -- S tells the sounding parts.
 abbrev pub soundingEntries : (ℕ → Bool) → List Entry → List Entry

@@ -5,7 +5,7 @@ use mathlib.Core.Bool.{Bool}
 use mathlib.Core.List.{List, [], _∷_, _++_}
 use lib.Dec.{ltb}
 use Rattle.units.specs.declared.Grains.{Grains}
-use Rattle.page.specs.Tests.{pick}
+use Rattle.base.specs.Tests.{pick}
 pub use Rattle.rules.specs.declared.Fate.{Fate}
 pub use Rattle.rules.specs.declared.Fate.the-variants.{HeardAt as heardAt, MissedBy as missedBy, GroupsOnly as groupsOnly, Nothing as nothing, NotYet as notYet}
 use Rattle.rules.specs.Words.{Synchrony, loose, tight, ErrorWord, local, global, partial, causal}

@@ -3,7 +3,7 @@ use mathlib.Core.Path.{_≡_}
 use Prim.Native.Nat.{ℕ, _<_}
 use mathlib.Core.List.{List, [], _∷_}
 use lib.Dec.{eqb}
-use Rattle.page.specs.Tests.{pick}
+use Rattle.base.specs.Tests.{pick}
 use Rattle.rules.specs.Rules.{Outcome, played, dropped, undecided, Line, line, Triple, triple}
 use Rattle.rules.specs.Page.{Cue}
 

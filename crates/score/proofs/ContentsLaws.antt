@@ -5,7 +5,7 @@ use mathlib.Core.Bool.{true, false}
 use Prim.Native.Nat.{ℕ}
 use lib.Dec.{eqb}
 use borrow.Author.Tests.{eq-eqb, ne-eqb, leb-true, eqb-true}
-use Rattle.page.proofs.TestLaws.{between-low, between-high}
+use Rattle.base.proofs.TestLaws.{between-low, between-high}
 use Rattle.score.specs.declared.Verdict.{Verdict}
 use Rattle.score.specs.declared.Verdict.the-variants.{Fine}
 use Rattle.score.specs.declared.Counts.{Counts}

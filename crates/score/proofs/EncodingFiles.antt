@@ -8,8 +8,8 @@ use native.Mathlib.Omega.{arith}
 use lib.ListN.{length, getD}
 use lib.Seq.{take-all}
 use borrow.Author.Tests.{leb-true, eqb-true}
-use Rattle.page.specs.Tests.{every, between}
-use Rattle.page.proofs.TestLaws.{every-head, every-rest}
+use Rattle.base.specs.Tests.{every, between}
+use Rattle.base.proofs.TestLaws.{every-head, every-rest}
 use Rattle.score.specs.declared.Verdict.the-variants.{Fine}
 use Rattle.score.specs.declared.Fault.the-variants.{BadMessage, TextLeft}
 use Rattle.score.specs.declared.Counts.{Counts}

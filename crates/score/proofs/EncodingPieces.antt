@@ -9,7 +9,7 @@ use lib.ListN.{length, getD, drop, length-append}
 use lib.Dec.{leb}
 use borrow.Author.Tests.{eq-eqb, le-leb}
 use Rattle.page.specs.declared.Item.{Item}
-use Rattle.page.proofs.TestLaws.{every-head, every-rest, between-high}
+use Rattle.base.proofs.TestLaws.{every-head, every-rest, between-high}
 use Rattle.score.specs.declared.Verdict.the-variants.{Fine}
 use Rattle.score.specs.declared.Fault.the-variants.{BadEvent}
 use Rattle.score.specs.declared.Counts.{Counts}

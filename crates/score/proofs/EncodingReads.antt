@@ -8,8 +8,8 @@ use native.Mathlib.Omega.{arith}
 use lib.ListN.{length, drop, length-append}
 use borrow.Author.Tests.{eq-eqb, le-leb}
 use Rattle.page.specs.declared.Item.{Item}
-use Rattle.page.specs.Tests.{every, between}
-use Rattle.page.proofs.TestLaws.{every-head, every-rest, between-high}
+use Rattle.base.specs.Tests.{every, between}
+use Rattle.base.proofs.TestLaws.{every-head, every-rest, between-high}
 use Rattle.score.specs.declared.Verdict.the-variants.{Fine}
 use Rattle.score.specs.declared.Fault.the-variants.{BadEvent}
 use Rattle.score.specs.declared.Counts.{Counts}

@@ -4,8 +4,8 @@ use mathlib.Core.Path.{_≡_, refl, sym, _∙_}
 use mathlib.Core.List.{List, [], _∷_}
 use Prim.Native.Nat.{ℕ, _+_, _-_, _<_, _≤_}
 use borrow.Author.Needs.{needs}
-use Rattle.page.specs.Tests.{between}
-use Rattle.page.proofs.TestLaws.{between-in, between-under, between-over}
+use Rattle.base.specs.Tests.{between}
+use Rattle.base.proofs.TestLaws.{between-in, between-under, between-over}
 use Rattle.score.specs.declared.Verdict.{Verdict}
 use Rattle.score.specs.declared.Verdict.the-variants.{Fine, Refused}
 use Rattle.score.specs.declared.Fault.the-variants.{BadEvent}

@@ -10,7 +10,7 @@ use borrow.Author.Tests.{le-ltb, lt-ltb, leb-true, eqb-true, ltb-true}
 use borrow.Author.Needs.{needs}
 use borrow.Rule.Slice.PartAt.{slPart}
 use denote.Ref.{RefT}
-use Rattle.page.proofs.TestLaws.{every-head, every-rest, between-low, between-high}
+use Rattle.base.proofs.TestLaws.{every-head, every-rest, between-low, between-high}
 use Rattle.score.specs.declared.Verdict.{Verdict}
 use Rattle.score.specs.declared.Verdict.the-variants.{Fine, Refused}
 use Rattle.score.specs.declared.Fault.{Fault}

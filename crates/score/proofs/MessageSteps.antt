@@ -9,8 +9,8 @@ use lib.ListN.{length}
 use lib.Dec.{leb, eqb}
 use borrow.Author.Tests.{eq-eqb, ne-eqb, leb-true}
 use borrow.Author.Needs.{needs}
-use Rattle.page.specs.Tests.{every, between}
-use Rattle.page.proofs.TestLaws.{every-pass, every-stop, every-last, every-head, every-rest, told-true, told-false, tests}
+use Rattle.base.specs.Tests.{every, between}
+use Rattle.base.proofs.TestLaws.{every-pass, every-stop, every-last, every-head, every-rest, told-true, told-false, tests}
 use Rattle.score.specs.declared.Verdict.{Verdict}
 use Rattle.score.specs.declared.Verdict.the-variants.{Fine, Refused}
 use Rattle.score.specs.declared.Fault.the-variants.{BadMessage, TextLeft}

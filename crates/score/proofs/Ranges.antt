@@ -8,8 +8,8 @@ use native.Mathlib.Omega.{arith}
 use lib.ListN.{length, getD, take, drop, length-take, length-drop, take-append-drop}
 use borrow.Author.Tests.{leb-true, ltb-true, eqb-true}
 use Rattle.page.specs.declared.Item.{Item}
-use Rattle.page.specs.Tests.{pick, between}
-use Rattle.page.proofs.TestLaws.{every-head, every-rest, between-high}
+use Rattle.base.specs.Tests.{pick, between}
+use Rattle.base.proofs.TestLaws.{every-head, every-rest, between-high}
 use Rattle.score.specs.declared.Verdict.the-variants.{Fine}
 use Rattle.score.specs.declared.Walk.the-variants.{Actions}
 use Rattle.score.specs.declared.Counts.{Counts}

@@ -7,7 +7,7 @@ use native.Mathlib.Omega.{arith}
 use lib.ListN.{length, getD}
 use borrow.Author.Needs.{needs}
 use Rattle.page.specs.declared.Item.{Item}
-use Rattle.page.proofs.TestLaws.{between-low, between-high}
+use Rattle.base.proofs.TestLaws.{between-low, between-high}
 use Rattle.score.specs.declared.Counts.{Counts}
 use Rattle.score.specs.Limits.{eventSize, itemSize, mostEvents, mostItems, mostMessages}
 use Rattle.score.specs.Bytes.{u32At}

@@ -4,7 +4,7 @@ use mathlib.Core.Path.{_≡_, refl}
 use mathlib.Core.Bool.{Bool, true, false}
 use Prim.Native.Nat.{ℕ}
 use native.Mathlib.Omega.{arith}
-use Rattle.page.specs.Tests.{pick}
+use Rattle.base.specs.Tests.{pick}
 use Rattle.score.specs.declared.Verdict.the-variants.{Fine}
 use Rattle.score.specs.declared.Walk.{Walk}
 use Rattle.score.specs.declared.Walk.the-variants.{Actions, Stop}

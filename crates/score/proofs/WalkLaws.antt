@@ -9,8 +9,8 @@ use lib.ListN.{length, take, drop, length-drop}
 use lib.Seq.{length-take-le}
 use borrow.Author.Tests.{eq-eqb, ne-eqb, leb-true, ltb-true}
 use Rattle.page.specs.declared.Item.{Item}
-use Rattle.page.specs.Tests.{pick}
-use Rattle.page.proofs.TestLaws.{every-head, every-rest}
+use Rattle.base.specs.Tests.{pick}
+use Rattle.base.proofs.TestLaws.{every-head, every-rest}
 use Rattle.score.specs.declared.Walk.{Walk}
 use Rattle.score.specs.declared.Walk.the-variants.{Actions, Stop}
 use Rattle.score.specs.declared.Counts.{Counts}

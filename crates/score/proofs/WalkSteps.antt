@@ -8,8 +8,8 @@ use native.Mathlib.Omega.{arith}
 use lib.ListN.{length}
 use borrow.Author.Needs.{needs}
 use Rattle.page.specs.declared.Item.{Item}
-use Rattle.page.specs.Tests.{pick}
-use Rattle.page.proofs.TestLaws.{told-true, told-false}
+use Rattle.base.specs.Tests.{pick}
+use Rattle.base.proofs.TestLaws.{told-true, told-false}
 use Rattle.score.specs.declared.Walk.{Walk}
 use Rattle.score.specs.declared.Walk.the-variants.{Actions, Stop}
 use Rattle.score.specs.declared.Counts.{Counts}

@@ -5,7 +5,7 @@ use mathlib.Core.Bool.{true, false}
 use mathlib.Core.List.{List}
 use lib.ListN.{length}
 use Rattle.page.specs.declared.Item.{Item}
-use Rattle.page.specs.Tests.{pick}
+use Rattle.base.specs.Tests.{pick}
 use Rattle.score.specs.declared.Verdict.the-variants.{Fine}
 use Rattle.score.specs.declared.Counts.{Counts}
 use Rattle.score.specs.declared.Holder.{Holder}

@@ -2,7 +2,7 @@
 use Prim.Native.Nat.{ℕ, _+_, _*_}
 use mathlib.Core.List.{List, [], _∷_}
 use lib.Dec.{leb, eqb}
-use Rattle.page.specs.Tests.{between}
+use Rattle.base.specs.Tests.{between}
 use Rattle.score.specs.declared.Verdict.{Verdict}
 use Rattle.score.specs.declared.Fault.the-variants.{BadCount, BadOffset, BadLength}
 use Rattle.score.specs.declared.Counts.{Counts}

@@ -5,7 +5,7 @@ use mathlib.Core.Bool.{Bool, true}
 use mathlib.Core.List.{List, [], _∷_, _++_}
 use lib.ListN.{length}
 use Rattle.page.specs.declared.Item.{Item}
-use Rattle.page.specs.Tests.{every, between}
+use Rattle.base.specs.Tests.{every, between}
 use Rattle.score.specs.declared.Verdict.the-variants.{Fine}
 use Rattle.score.specs.declared.Counts.{Counts}
 use Rattle.score.specs.Limits.{contentsSize, longestLabel}

@@ -1,7 +1,7 @@
 -- "Event: 4 bytes, its duration in grains, 1 to 5,040,000."
 use Prim.Native.Nat.{ℕ, zero, suc, _+_}
 use mathlib.Core.List.{List, [], _∷_}
-use Rattle.page.specs.Tests.{between}
+use Rattle.base.specs.Tests.{between}
 use Rattle.score.specs.declared.Verdict.{Verdict}
 use Rattle.score.specs.declared.Verdict.the-variants.{Fine}
 use Rattle.score.specs.declared.Fault.the-variants.{BadEvent}

@@ -5,7 +5,7 @@ use mathlib.Core.List.{List, [], _∷_}
 use lib.ListN.{length, take, drop}
 use lib.Dec.{leb, ltb, eqb}
 use Rattle.page.specs.declared.Item.{Item}
-use Rattle.page.specs.Tests.{pick, every, between}
+use Rattle.base.specs.Tests.{pick, every, between}
 use Rattle.score.specs.declared.Verdict.{Verdict}
 use Rattle.score.specs.declared.Verdict.the-variants.{Fine, Refused}
 use Rattle.score.specs.declared.Fault.the-variants.{BadItem}

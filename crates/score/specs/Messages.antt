@@ -3,7 +3,7 @@ use Prim.Native.Nat.{ℕ, zero, suc, _+_}
 use mathlib.Core.Bool.{Bool, true, not}
 use mathlib.Core.List.{List, [], _∷_}
 use lib.Dec.{leb, eqb}
-use Rattle.page.specs.Tests.{every, between}
+use Rattle.base.specs.Tests.{every, between}
 use Rattle.score.specs.declared.Verdict.{Verdict}
 use Rattle.score.specs.declared.Fault.the-variants.{BadMessage, TextLeft}
 use Rattle.score.specs.declared.Counts.{Counts}

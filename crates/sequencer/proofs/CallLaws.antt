@@ -8,7 +8,7 @@ use native.Mathlib.Omega.{arith}
 use lib.ListN.{length, set}
 use mir.Syntax.{w64}
 use mir.Val.{Fits}
-use Rattle.page.proofs.TestLaws.{told-true}
+use Rattle.base.proofs.TestLaws.{told-true}
 use Rattle.units.specs.declared.Thousandths.{Thousandths}
 use Rattle.units.specs.Units.{movedBy}
 use Rattle.sequencer.specs.declared.Refusal.{Refusal}

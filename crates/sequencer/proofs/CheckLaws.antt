@@ -6,7 +6,7 @@ use mathlib.Core.List.{List, [], _∷_}
 use Prim.Native.Nat.{ℕ}
 use native.Mathlib.Omega.{arith}
 use borrow.Author.Tests.{le-leb, lt-leb, lt-ltb, le-ltb}
-use Rattle.page.proofs.TestLaws.{between-in, between-under, between-over, told-true, told-false}
+use Rattle.base.proofs.TestLaws.{between-in, between-under, between-over, told-true, told-false}
 use Rattle.sequencer.specs.declared.Refusal.{Refusal}
 use Rattle.sequencer.specs.Calls.{Check, must, Grant, granted, refused, firstOf}
 

@@ -6,7 +6,7 @@ use Prim.Native.Nat.{ℕ, _+_, _≤_}
 use native.Mathlib.Omega.{arith}
 use lib.ListN.{length}
 use Rattle.page.specs.declared.Item.{Item}
-use Rattle.page.proofs.TestLaws.{between-high}
+use Rattle.base.proofs.TestLaws.{between-high}
 use Rattle.score.specs.declared.Verdict.the-variants.{Fine}
 use Rattle.score.specs.declared.Fault.the-variants.{BadEvent}
 use Rattle.score.specs.Limits.{eventSize, longest}

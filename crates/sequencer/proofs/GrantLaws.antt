@@ -5,7 +5,7 @@ use mathlib.Core.List.{List}
 use Prim.Native.Nat.{ℕ, _≤_, _<_}
 use lib.ListN.{length}
 use borrow.Author.Tests.{leb-true, ltb-true}
-use Rattle.page.proofs.TestLaws.{between-low, between-high}
+use Rattle.base.proofs.TestLaws.{between-low, between-high}
 use Rattle.sequencer.specs.Layout.{memorySize, roomSize, mostTempo, mostMillis, clockEnd, eventsAt, lastAt, wordAt}
 use Rattle.sequencer.specs.Session.{Header}
 use Rattle.sequencer.specs.Calls.{granted, clockAfter, heardCheck, passCheck}

@@ -7,7 +7,7 @@ use Prim.Native.Nat.{ℕ, zero, suc, _+_, _-_, _≤_, _<_}
 use native.Mathlib.Omega.{arith}
 use lib.ListN.{length, getD, set, take, drop, length-set}
 use lib.Seq.{take-set-le, drop-set-lt, take-take, drop-drop, getD-take}
-use Rattle.page.specs.Tests.{pick}
+use Rattle.base.specs.Tests.{pick}
 use Rattle.evaluators.specs.declared.Tables.{Tables}
 use Rattle.evaluators.specs.Tables.{Laid, performed}
 use Rattle.evaluators.proofs.PlaceLaws.{performed-length, performed-before, performed-past}

@@ -9,8 +9,8 @@ use lib.Count.{ones}
 use lib.Dec.{leb}
 use lib.ListN.{length, getD, drop}
 use borrow.Author.Tests.{leb-true, ne-eqb}
-use Rattle.page.specs.Tests.{pick, between}
-use Rattle.page.proofs.TestLaws.{between-low, between-high, every-stop}
+use Rattle.base.specs.Tests.{pick, between}
+use Rattle.base.proofs.TestLaws.{between-low, between-high, every-stop}
 use Rattle.score.specs.declared.Verdict.{Verdict}
 use Rattle.score.specs.declared.Verdict.the-variants.{Fine, Refused as faulty}
 use Rattle.score.specs.File.{checked, Accepted}

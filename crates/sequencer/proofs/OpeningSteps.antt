@@ -7,8 +7,8 @@ use lib.Count.{ones}
 use lib.ListN.{length}
 use borrow.Author.Tests.{le-leb, lt-leb}
 use borrow.Author.Needs.{needs}
-use Rattle.page.specs.Tests.{pick}
-use Rattle.page.proofs.TestLaws.{between-in, between-under, between-over}
+use Rattle.base.specs.Tests.{pick}
+use Rattle.base.proofs.TestLaws.{between-in, between-under, between-over}
 use Rattle.score.specs.declared.Fault.{Fault}
 use Rattle.score.specs.declared.Verdict.{Verdict}
 use Rattle.score.specs.declared.Verdict.the-variants.{Fine, Refused as faulty}

@@ -5,7 +5,7 @@ use mathlib.Core.Bool.{true}
 use mathlib.Core.List.{List}
 use Prim.Native.Nat.{ℕ}
 use borrow.Author.Tests.{leb-true, le-leb, eqb-true, eq-eqb}
-use Rattle.page.proofs.TestLaws.{every-end, every-pass, every-head, every-rest, between-in, between-low, between-high}
+use Rattle.base.proofs.TestLaws.{every-end, every-pass, every-head, every-rest, between-in, between-low, between-high}
 use Rattle.sequencer.specs.Layout.{mostTempo}
 use Rattle.sequencer.specs.Session.{isSession, Header}
 

@@ -10,8 +10,8 @@ use lib.Dec.{eqb}
 use lib.ListN.{set}
 use borrow.Author.Tests.{eq-eqb, ne-eqb}
 use Rattle.page.specs.declared.Item.{Item}
-use Rattle.page.specs.Tests.{pick, every}
-use Rattle.page.proofs.TestLaws.{told-true, told-false, pick-true, pick-false}
+use Rattle.base.specs.Tests.{pick, every}
+use Rattle.base.proofs.TestLaws.{told-true, told-false, pick-true, pick-false}
 use Rattle.evaluators.specs.Fields.{itemIn}
 use Rattle.units.specs.declared.Thousandths.{Thousandths}
 use Rattle.units.specs.Units.{onClock}

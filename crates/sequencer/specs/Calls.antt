@@ -6,7 +6,7 @@ use mathlib.Core.List.{List, [], _∷_}
 use lib.Dec.{leb, ltb}
 use lib.ListN.{length, set}
 use Rattle.units.specs.Units.{movedBy}
-use Rattle.page.specs.Tests.{between}
+use Rattle.base.specs.Tests.{between}
 use Rattle.evaluators.specs.Tables.{performed}
 use Rattle.sequencer.specs.declared.Refusal.{Refusal}
 use Rattle.sequencer.specs.declared.Refusal.the-variants.{MemoryShort, RoomShort, BadTempo, NoSession, NoEvent, NotAfter, BadMillis, ClockFull}

@@ -4,7 +4,7 @@ use mathlib.Core.List.{List, [], _∷_, _++_, map}
 use lib.Dec.{leb}
 use lib.ListN.{length, set, drop}
 use lib.Count.{ones}
-use Rattle.page.specs.Tests.{pick, between}
+use Rattle.base.specs.Tests.{pick, between}
 use Rattle.score.specs.declared.Verdict.{Verdict}
 use Rattle.score.specs.declared.Verdict.the-variants.{Fine, Refused as faulty}
 use Rattle.score.specs.File.{checked}

@@ -4,7 +4,7 @@ use Prim.Native.Nat.{ℕ, _+_, _*_, _≤_}
 use mathlib.Core.Bool.{Bool}
 use mathlib.Core.List.{List, [], _∷_}
 use lib.Dec.{leb, eqb}
-use Rattle.page.specs.Tests.{every, between}
+use Rattle.base.specs.Tests.{every, between}
 use Rattle.sequencer.specs.Layout.{mostSent, mostTempo, clockEnd, markAt, eventsAt, itemsAt, partsAt, clockAt, tempoAt, lastAt, totalAt, mark, wordAt}
 
 -- The header is a session's: the mark, counts and part bits within their limits, clock and tempo likewise, the last event one of the score's or 0, and no more

@@ -2,7 +2,7 @@
 ghost use mathlib.Core.Path.{_≡_};
 ghost use Prim.Native.Nat.{_+_, _≤_, _<_};
 ghost use lib.ListN.{length, set};
-ghost use Rattle.page.specs.Tests.{pick};
+ghost use Rattle.base.specs.Tests.{pick};
 ghost use Rattle.sequencer.specs.Layout.{memorySize, clockEnd, slotsAt, outcomesAt, wordAt};
 ghost use Rattle.sequencer.specs.Sending.{sounds, slotBy, isOpen, settled};
 use crate::layout::OUTCOMES_AT;

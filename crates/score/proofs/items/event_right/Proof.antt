@@ -1,7 +1,7 @@
 -- The tests of the code are those of the definition, in its order.
 -- Assumes nothing.
 use borrow.Author.Needs.{needs}
-use Rattle.page.proofs.TestLaws.{tests}
+use Rattle.base.proofs.TestLaws.{tests}
 use Rattle.score.specs.Items.{eventRight}
 use Rattle.score.proofs.items.event_right.Statement.{statement}
 use Rattle.score.proofs.items.event_right.Tie as tie

@@ -1,6 +1,6 @@
 -- The tests of the code are those of the definition, in its order.
 -- Assumes nothing.
-use Rattle.page.proofs.TestLaws.{tests}
+use Rattle.base.proofs.TestLaws.{tests}
 use Rattle.score.specs.Items.{inOrder}
 use Rattle.score.proofs.items.in_order.Statement.{statement}
 use Rattle.score.proofs.items.in_order.Tie as tie

@@ -1,7 +1,7 @@
 -- What each rule told, in the order of the definition.
 -- Assumes nothing.
 use borrow.Author.Needs.{needs}
-use Rattle.page.proofs.TestLaws.{calls}
+use Rattle.base.proofs.TestLaws.{calls}
 use Rattle.score.specs.Items.{standingRight}
 use Rattle.score.proofs.items.standing_right.Statement.{statement}
 use Rattle.score.proofs.items.standing_right.Tie as tie

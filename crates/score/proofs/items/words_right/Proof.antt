@@ -1,6 +1,6 @@
 -- The tests of the code are those of the definition, in its order.
 -- Assumes nothing.
-use Rattle.page.proofs.TestLaws.{tests}
+use Rattle.base.proofs.TestLaws.{tests}
 use Rattle.score.specs.Items.{wordsRight}
 use Rattle.score.proofs.items.words_right.Statement.{statement}
 use Rattle.score.proofs.items.words_right.Tie as tie

@@ -1,7 +1,7 @@
 -- A byte is below 256, so only the two tests are left of the definition.
 -- Assumes nothing.
 use borrow.Author.Needs.{needs}
-use Rattle.page.proofs.TestLaws.{tests}
+use Rattle.base.proofs.TestLaws.{tests}
 use Rattle.score.specs.Messages.{labelByte}
 use Rattle.score.proofs.messages.label_byte.Statement.{statement}
 use Rattle.score.proofs.messages.label_byte.Tie as tie

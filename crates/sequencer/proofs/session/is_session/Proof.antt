@@ -1,6 +1,6 @@
 -- Each return is the answer of the tests that led there, in the order of the rule.
 -- Assumes nothing.
-use Rattle.page.proofs.TestLaws.{tests}
+use Rattle.base.proofs.TestLaws.{tests}
 use Rattle.sequencer.specs.Session.{isSession}
 use borrow.Author.Needs.{needs}
 use Rattle.sequencer.proofs.session.is_session.Statement.{statement}

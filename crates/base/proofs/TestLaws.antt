@@ -7,7 +7,7 @@ use Prim.Native.Nat.{ℕ, _<_, _≤_}
 use native.Mathlib.Omega.{arith}
 use lib.Dec.{leb}
 use borrow.Author.Tests.{eq-eqb, ne-eqb, le-leb, lt-leb, le-ltb, lt-ltb, leb-true}
-use Rattle.page.specs.Tests.{pick, every, between}
+use Rattle.base.specs.Tests.{pick, every, between}
 
 -- ---- from the tests to the answer
 

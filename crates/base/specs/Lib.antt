@@ -1,2 +1,4 @@
 -- Words that every layer's definitions are written with.
 pub mod Tests
+pub mod Checks
+pub mod Only

@@ -1,0 +1,3 @@
+pub mod TestLaws
+pub mod CheckLaws
+pub mod OnlyLaws
