@@ -1,5 +1,6 @@
 -- The rules of performance, as document 01 has them: events and their dates, what was heard, the rules item by item, and a whole page under them; small scores; and
 -- what the laws speak of.
+pub mod Terms
 pub mod Words
 pub mod Score
 pub mod Heard
