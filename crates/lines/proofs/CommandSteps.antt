@@ -13,47 +13,19 @@ use borrow.Author.Tests.{le-leb, lt-leb}
 use borrow.Author.Needs.{needs}
 use Rattle.base.specs.Tests.{pick, every, between}
 use Rattle.base.proofs.TestLaws.{every-pass, every-stop, every-end, pick-true, pick-false}
-use Rattle.lines.specs.declared.numbers.Number.{Number}
-use Rattle.lines.specs.declared.numbers.Number.the-variants as number
+use Rattle.ascii.specs.declared.Number.{Number}
+use Rattle.ascii.specs.declared.Number.the-variants as number
+use Rattle.ascii.specs.Words.{space, begins, bytesBefore}
+use Rattle.ascii.specs.Numbers.{isNumber, value, numberOf}
+use Rattle.ascii.proofs.NumberSteps.{not-two, told-number, told-value, told-none}
 use Rattle.lines.specs.declared.commands.Pair.{Pair}
 use Rattle.lines.specs.declared.commands.Pair.the-variants as pair
 use Rattle.lines.specs.declared.Command.{Command}
 use Rattle.lines.specs.declared.Command.the-variants.{Open, Hear, Pass, Bad}
-use Rattle.lines.specs.Words.{openCommand, hearCommand, passCommand, space, bytesBefore}
-use Rattle.lines.specs.Numbers.{isNumber, value, numberOf}
-use Rattle.lines.specs.Commands.{mostParts, begins, firstWord, otherWords, twoNumbers, pairOf, openOf, hearOf, passOf, commandOf, inTurn}
-
--- ---- what reading a number told
-
-number-told : (bs : List ℕ) (t : Bool) (a : ℕ) → pick t (number.Read (value bs)) number.Unreadable ≡ number.Read a → (t ≡ true) × (a ≡ value bs)
-unfolding pick
-number-told bs true a e = (refl, cc)
-number-told bs false a e = let z : _≡_ {A = ℕ} 0 1 = cc in absurd (omega arith)
-
-number-not : (bs : List ℕ) (t : Bool) → pick t (number.Read (value bs)) number.Unreadable ≡ number.Unreadable → t ≡ false
-unfolding pick
-number-not bs true e = let z : _≡_ {A = ℕ} 0 1 = cc in absurd (omega arith)
-number-not bs false e = refl
-
-module _ (bs : List ℕ) (v : Number) (e : v ≡ numberOf bs) where
-  pub told-number : (a : ℕ) → v ≡ number.Read a → isNumber bs ≡ true
-  unfolding numberOf
-  told-number a p = number-told bs (isNumber bs) a (sym e ∙ p) .0
-
-  pub told-value : (a : ℕ) → v ≡ number.Read a → a ≡ value bs
-  unfolding numberOf
-  told-value a p = number-told bs (isNumber bs) a (sym e ∙ p) .1
-
-  pub told-none : v ≡ number.Unreadable → isNumber bs ≡ false
-  unfolding numberOf
-  told-none p = number-not bs (isNumber bs) (sym e ∙ p)
+use Rattle.lines.specs.Words.{openCommand, hearCommand, passCommand}
+use Rattle.lines.specs.Commands.{mostParts, firstWord, otherWords, twoNumbers, pairOf, openOf, hearOf, passOf, commandOf, inTurn}
 
 -- ---- two numbers
-
-pub not-two : (a b : Bool) → b ≡ false → every (a ∷ b ∷ []) ≡ false
-unfolding every
-not-two true b e = rw e
-not-two false b e = refl
 
 no-bytes : isNumber [] ≡ false
 unfolding isNumber every between
@@ -66,7 +38,7 @@ module _ (bs : List ℕ) (stop : ℕ) (at : stop ≡ bytesBefore space bs) where
 
   other-words : otherWords bs ≡ take (length bs - (stop + 1)) (drop (stop + 1) bs)
   unfolding otherWords
-  other-words = rw (← at, ← add-one, take-all (length bs - (stop + 1)) (drop (stop + 1) bs) (simp length-drop (omega arith)))
+  other-words = rw (← at, ← add-one stop, take-all (length bs - (stop + 1)) (drop (stop + 1) bs) (simp length-drop (omega arith)))
 
   pub pair-alone : length bs ≤ stop → pair.Unreadable ≡ pairOf bs
   unfolding pairOf twoNumbers otherWords

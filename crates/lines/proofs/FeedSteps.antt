@@ -11,9 +11,10 @@ use lib.Dec.{leb, ltb}
 use borrow.Author.Tests.{leb-true, leb-false, lt-ltb, le-ltb}
 use borrow.Author.Needs.{needs}
 use Rattle.base.proofs.TestLaws.{pick-true, pick-false}
-use Rattle.lines.specs.Words.{newline, bytesBefore}
+use Rattle.ascii.specs.Words.{newline, bytesBefore}
+use Rattle.ascii.specs.Laying.{Laid}
+use Rattle.lines.specs.declared.Fed.{Fed}
 use Rattle.lines.specs.Input.{keptBytes, lineLength, keptLine, fedOf, Feedable, Feeds}
-use Rattle.lines.specs.Laying.{Laid}
 
 take-min : (a b : ℕ) (l : List ℕ) → take a (take b l) ≡ take (min a b) l
 take-min a b l = go (leb a b) refl where
@@ -77,36 +78,21 @@ module _ (chunk line new : List ℕ) (at have count room kept : ℕ) (asked : Fe
       let s : kept ≡ have + length (take room (take (length chunk - at) (drop at chunk))) = laid .stop in
       omega (arith, piece-length (take (length chunk - at) (drop at chunk)) (keptBytes - have) count room inside least)
 
-  rest-length : length (drop at chunk) ≡ length chunk - at
-  rest-length = length-drop at chunk
+  feeds : (next : ℕ) (ended : Bool) → _≡_ {A = Fed} (record { next = next; have = kept; ended = ended }) (fedOf at (take have line) (drop at chunk)) → next ≤ length chunk
+      → (at < length chunk → at < next) → Feeds chunk at line have new (record { next = next; have = kept; ended = ended })
+  feeds next ended answer within onward =
+      record { answer = answer; kept = line-kept; others = laid .others; held = have-least; within = within; onward = onward; size = laid .size }
 
   pub feeds-ended : at + count < length chunk → Feeds chunk at line have new (record { next = at + count + 1; have = kept; ended = true })
   unfolding fedOf
   feeds-ended p =
-      let t : ltb (lineLength (drop at chunk)) (length (drop at chunk)) ≡ true = lt-ltb (lineLength (drop at chunk)) (length (drop at chunk)) (omega (arith, rest-length, line-length)) in
-      record {
-        answer = pick-true _ _ _ _ t (rw (line-length, ← have-kept));
-        kept = line-kept;
-        others = laid .others;
-        held = have-least;
-        within = omega arith;
-        onward = λ q. omega arith;
-        size = laid .size;
-      }
+      let t : ltb (lineLength (drop at chunk)) (length (drop at chunk)) ≡ true = lt-ltb (lineLength (drop at chunk)) (length (drop at chunk)) (omega (arith, length-drop at chunk, line-length)) in
+      feeds (at + count + 1) true (pick-true _ _ _ _ t (rw (line-length, ← have-kept))) (omega arith) (λ q. omega arith)
 
   pub feeds-on : length chunk ≤ at + count → Feeds chunk at line have new (record { next = at + count; have = kept; ended = false })
   unfolding fedOf
   feeds-on p =
-      let t : ltb (lineLength (drop at chunk)) (length (drop at chunk)) ≡ false = le-ltb (lineLength (drop at chunk)) (length (drop at chunk)) (omega (arith, rest-length, line-length)) in
-      let w : at + count ≤ length chunk = count-within chunk at count (asked .place) inside in
-      record {
-        answer = pick-false _ _ _ _ t (rw (line-length, ← have-kept));
-        kept = line-kept;
-        others = laid .others;
-        held = have-least;
-        within = w;
-        onward = λ q. omega arith;
-        size = laid .size;
-      }
+      let t : ltb (lineLength (drop at chunk)) (length (drop at chunk)) ≡ false = le-ltb (lineLength (drop at chunk)) (length (drop at chunk)) (omega (arith, length-drop at chunk, line-length)) in
+      feeds (at + count) false (pick-false _ _ _ _ t (rw (line-length, ← have-kept))) (count-within chunk at count (asked .place) inside) (λ q. omega arith)
 
 pub ruleset feeding = (piece-length, piece-fits, count-within, feeds-ended, feeds-on, needs)

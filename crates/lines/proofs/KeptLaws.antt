@@ -11,13 +11,12 @@ use lib.Dec.{leb, eqb}
 use borrow.Author.Tests.{leb-true, leb-false}
 use Rattle.base.specs.Tests.{pick, every}
 use Rattle.base.proofs.TestLaws.{every-stop, pick-false}
+use Rattle.ascii.specs.Words.{space, newline, bytesBefore}
+use Rattle.ascii.specs.Numbers.{mostDigits, isNumber}
+use Rattle.ascii.proofs.NumberSteps.{not-two, long-no-number}
 use Rattle.lines.specs.declared.Command.the-variants.{Bad}
-use Rattle.lines.specs.Words.{space, newline, bytesBefore}
-use Rattle.lines.specs.Numbers.{mostDigits, isNumber}
 use Rattle.lines.specs.Commands.{firstWord, otherWords, twoNumbers, openOf, hearOf, passOf, commandOf}
 use Rattle.lines.specs.Input.{keptBytes, lineLength, keptLine}
-use Rattle.lines.proofs.NumberSteps.{long-no-number}
-use Rattle.lines.proofs.CommandSteps.{not-two}
 
 -- ---- a long line is unreadable
 
@@ -38,12 +37,10 @@ long-no-pair bs p = go (leb 11 stop) refl where
       let h : mostDigits < length (drop (suc stop) bs) = omega (arith, length-drop (suc stop) bs) in
       not-two _ _ (long-no-number (drop (suc stop) bs) h)
 
-all-bad : (a b c : Bool) → pick a Bad (pick b Bad (pick c Bad Bad)) ≡ Bad
+bad-either : (b : Bool) → pick b Bad Bad ≡ Bad
 unfolding pick
-all-bad true b c = refl
-all-bad false true c = refl
-all-bad false false true = refl
-all-bad false false false = refl
+bad-either true = refl
+bad-either false = refl
 
 pub long-unreadable : (l : List ℕ) → keptBytes ≤ length l → commandOf l ≡ Bad
 unfolding commandOf openOf hearOf passOf
@@ -54,7 +51,7 @@ long-unreadable l p =
     let o : openOf (drop 2 l) ≡ Bad = sym (pick-false _ _ _ _ (sym (every-stop _ _ two)) refl) in
     let e : hearOf (drop 2 l) ≡ Bad = sym (pick-false _ _ _ _ two refl) in
     let t : passOf (drop 2 l) ≡ Bad = sym (pick-false _ _ _ _ (long-no-number (drop 2 l) n) refl) in
-    rw (o, e, t) (all-bad _ _ _)
+    simp (o, e, t, bad-either)
 
 pub command-of-kept : (l : List ℕ) → commandOf (take keptBytes l) ≡ commandOf l
 command-of-kept l = go (leb keptBytes (length l)) refl where

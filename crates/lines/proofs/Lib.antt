@@ -1,10 +1,6 @@
 -- Laws of what `play` reads and prints, for the proofs of several functions and for the program above.
-pub mod WordSteps
-pub mod NumberSteps
 pub mod CommandSteps
 pub mod KeptLaws
-pub mod LayLaws
-pub mod DecimalLaws
 pub mod PrintLaws
 pub mod FeedSteps
 pub mod OneOutcome

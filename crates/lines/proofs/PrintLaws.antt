@@ -1,62 +1,31 @@
--- Each line that is printed is its words and numbers, laid one behind the other from the front.
+-- Each line that is printed is its words, numbers and label, laid one behind the other.
 -- Assumes nothing.
-use mathlib.Core.List.{List, [], _∷_, _++_}
+use mathlib.Core.List.{List, [], _∷_}
 use Prim.Native.Nat.{ℕ}
 use borrow.Author.Needs.{needs}
-use Rattle.lines.specs.Words.{openWord, partsWord, noWord, badWord, endWord, sentWord, space, newline}
-use Rattle.lines.specs.Output.{decimal, figure, openLine, messageLine, noLine, badLine, endLine, Printed}
-use Rattle.lines.specs.Laying.{Laid}
-use Rattle.lines.proofs.LayLaws.{laid-join}
+use Rattle.ascii.specs.Words.{space, newline}
+use Rattle.ascii.specs.Decimals.{decimal}
+use Rattle.ascii.specs.Laying.{Laid}
+use Rattle.ascii.proofs.LayLaws.{laid-join}
+use Rattle.lines.specs.Output.{wordLine, wordsLine, figure, messageLine}
 
-whole : (line o n : List ℕ) (r : ℕ) → Laid o 0 line n r → Printed line o n r
-whole line o n r p = record { bytes = p .front; others = p .others; within = p .within; size = p .size }
+module _ (o m₁ m₂ n word : List ℕ) (x at a b r : ℕ) (front : Laid o at word m₁ a) (number : Laid m₁ a (decimal x) m₂ b) where
+  pub lay-word-line : Laid m₂ b (newline ∷ []) n r → Laid o at (wordLine word x) n r
+  unfolding wordLine
+  lay-word-line p = laid-join o m₁ n _ _ at a r front (laid-join m₁ m₂ n _ _ a b r number p)
 
--- ---- a word and a number
-
-module _ (o m₁ m₂ n : List ℕ) (x a b r : ℕ) (number : Laid m₁ a (decimal x) m₂ b) (end : Laid m₂ b (newline ∷ []) n r) where
-  one-number : (word : List ℕ) → Laid o 0 word m₁ a → Printed (word ++ (decimal x ++ (newline ∷ []))) o n r
-  one-number word p = whole _ o n r (laid-join o m₁ n word _ 0 a r p (laid-join m₁ m₂ n _ _ a b r number end))
-
-  pub print-no : Laid o 0 noWord m₁ a → Printed (noLine x) o n r
-  unfolding noLine
-  print-no p = one-number noWord p
-
-  pub print-bad : Laid o 0 badWord m₁ a → Printed (badLine x) o n r
-  unfolding badLine
-  print-bad p = one-number badWord p
-
-pub ruleset one-printed = (print-no, print-bad, needs)
-
--- ---- two words and two numbers
-
-module _ (o m₁ m₂ m₃ m₄ n : List ℕ) (x y a b c d r : ℕ) (number : Laid m₁ a (decimal x) m₂ b) (other : Laid m₃ c (decimal y) m₄ d) (end : Laid m₄ d (newline ∷ []) n r) where
-  two-numbers : (word between : List ℕ) → Laid o 0 word m₁ a → Laid m₂ b between m₃ c → Printed (word ++ (decimal x ++ (between ++ (decimal y ++ (newline ∷ []))))) o n r
-  two-numbers word between p q =
-      let rest = laid-join m₂ m₃ n between _ b c r q (laid-join m₃ m₄ n _ _ c d r other end) in
-      whole _ o n r (laid-join o m₁ n word _ 0 a r p (laid-join m₁ m₂ n _ _ a b r number rest))
-
-  pub print-open : Laid o 0 openWord m₁ a → Laid m₂ b partsWord m₃ c → Printed (openLine x y) o n r
-  unfolding openLine
-  print-open p q = two-numbers openWord partsWord p q
-
-  pub print-end : Laid o 0 endWord m₁ a → Laid m₂ b sentWord m₃ c → Printed (endLine x y) o n r
-  unfolding endLine
-  print-end p q = two-numbers endWord sentWord p q
-
-pub ruleset two-printed = (print-open, print-end, needs)
-
--- ---- a message
+  pub lay-words-line : (other : List ℕ) (y : ℕ) → Laid m₂ b (wordLine other y) n r → Laid o at (wordsLine word x other y) n r
+  unfolding wordsLine
+  lay-words-line other y p = laid-join o m₁ n _ _ at a r front (laid-join m₁ m₂ n _ _ a b r number p)
 
 pub lay-figure : (o m n : List ℕ) (x a b r : ℕ) → Laid o a (decimal x) m b → Laid m b (space ∷ []) n r → Laid o a (figure x) n r
 unfolding figure
 lay-figure o m n x a b r p q = laid-join o m n _ _ a b r p q
 
-pub ruleset figure-laid = (lay-figure, needs)
+pub ruleset printed = (lay-word-line, lay-words-line, lay-figure, needs)
 
 module _ {o m₁ m₂ m₃ m₄ n label : List ℕ} {a b c d r : ℕ} (clock due part : ℕ) where
-  pub print-message : Laid o 0 (figure clock) m₁ a → Laid m₁ a (figure due) m₂ b → Laid m₂ b (figure part) m₃ c → Laid m₃ c label m₄ d → Laid m₄ d (newline ∷ []) n r
-      → Printed (messageLine clock due part label) o n r
+  pub lay-message : Laid o 0 (figure clock) m₁ a → Laid m₁ a (figure due) m₂ b → Laid m₂ b (figure part) m₃ c → Laid m₃ c label m₄ d → Laid m₄ d (newline ∷ []) n r
+      → Laid o 0 (messageLine clock due part label) n r
   unfolding messageLine
-  print-message p q s t u =
-      let rest = laid-join m₂ m₃ n _ _ b c r s (laid-join m₃ m₄ n label _ c d r t u) in
-      whole _ o n r (laid-join o m₁ n _ _ 0 a r p (laid-join m₁ m₂ n _ _ a b r q rest))
+  lay-message p q s t u = laid-join o m₁ n _ _ 0 a r p (laid-join m₁ m₂ n _ _ a b r q (laid-join m₂ m₃ n _ _ b c r s (laid-join m₃ m₄ n _ _ c d r t u)))

@@ -1,22 +1,17 @@
 -- "commands from standard input: `O parts tempo` (first, once), `H event tempo`, `T ms`, whole numbers, one space between".
 use Prim.Native.Nat.{ℕ, suc}
-use mathlib.Core.Bool.{Bool, true, false}
+use mathlib.Core.Bool.{Bool}
 use mathlib.Core.List.{List, [], _∷_}
-use lib.Dec.{leb, eqb}
+use lib.Dec.{leb}
 use lib.ListN.{take, drop}
 use Rattle.base.specs.Tests.{pick, every}
+use Rattle.ascii.specs.Words.{space, begins, bytesBefore}
+use Rattle.ascii.specs.Numbers.{isNumber, value}
 use Rattle.lines.specs.declared.Command.{Command}
 use Rattle.lines.specs.declared.Command.the-variants.{Open, Hear, Pass, Bad}
 use Rattle.lines.specs.declared.commands.Pair.{Pair}
 use Rattle.lines.specs.declared.commands.Pair.the-variants.{Read, Unreadable}
-use Rattle.lines.specs.Words.{openCommand, hearCommand, passCommand, space, bytesBefore}
-use Rattle.lines.specs.Numbers.{isNumber, value}
-
--- The line begins with this word.
-unfoldable pub begins : List ℕ → List ℕ → Bool
-begins [] line = true
-begins (w ∷ ws) [] = false
-begins (w ∷ ws) (b ∷ bs) = pick (eqb w b) (begins ws bs) false
+use Rattle.lines.specs.Words.{openCommand, hearCommand, passCommand}
 
 -- The bytes before the first space, and those after it.
 unfoldable pub firstWord : List ℕ → List ℕ

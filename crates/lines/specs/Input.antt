@@ -6,8 +6,8 @@ use mathlib.Core.List.{List, _++_}
 use lib.Dec.{ltb}
 use lib.ListN.{length, take, drop}
 use Rattle.base.specs.Tests.{pick}
+use Rattle.ascii.specs.Words.{newline, bytesBefore}
 use Rattle.lines.specs.declared.Fed.{Fed}
-use Rattle.lines.specs.Words.{newline, bytesBefore}
 
 -- One byte more than the longest readable line has: `O`, two numbers of 10 digits and two spaces are 23.
 abbrev pub keptBytes : ℕ

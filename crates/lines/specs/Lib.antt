@@ -1,7 +1,5 @@
 -- What `play` reads and prints, as bytes: document 01's paragraph on the program `play`.
 pub mod Words
-pub mod Numbers
 pub mod Commands
 pub mod Input
 pub mod Output
-pub mod Laying

@@ -1,26 +1,20 @@
 -- The lines that `play` prints.
-use Prim.Native.Nat.{ℕ, zero, suc, _+_, _/_, _%_, _≤_}
-use mathlib.Core.Path.{_≡_}
+use Prim.Native.Nat.{ℕ}
 use mathlib.Core.List.{List, [], _∷_, _++_}
-use lib.Dec.{ltb}
-use lib.ListN.{length, take, drop}
-use Rattle.base.specs.Tests.{pick}
-use Rattle.lines.specs.Words.{openWord, partsWord, noWord, badWord, endWord, sentWord, space, newline, zeroDigit}
+use Rattle.ascii.specs.Words.{space, newline}
+use Rattle.ascii.specs.Decimals.{decimal}
+use Rattle.lines.specs.Words.{openWord, partsWord, noWord, badWord, endWord, sentWord}
 
--- The digits of a number, without leading zeros. The first number bounds them: 20 are enough for 64 bits.
-abbrev pub mostPlaces : ℕ
-mostPlaces = 20
+-- A word and a number, with the line's end; the same behind another word and number.
+unfoldable pub wordLine : List ℕ → ℕ → List ℕ
+wordLine word n = word ++ (decimal n ++ (newline ∷ []))
 
-unfoldable pub digitsOf : ℕ → ℕ → List ℕ
-digitsOf zero n = []
-digitsOf (suc k) n = pick (ltb n 10) ((zeroDigit + n) ∷ []) (digitsOf k (n / 10) ++ ((zeroDigit + n % 10) ∷ []))
-
-unfoldable pub decimal : ℕ → List ℕ
-decimal n = digitsOf mostPlaces n
+unfoldable pub wordsLine : List ℕ → ℕ → List ℕ → ℕ → List ℕ
+wordsLine word n other m = word ++ (decimal n ++ wordLine other m)
 
 -- "`open N parts C`"
-unfoldable pub openLine : (number parts : ℕ) → List ℕ
-openLine n c = openWord ++ (decimal n ++ (partsWord ++ (decimal c ++ (newline ∷ []))))
+abbrev pub openLine : (number parts : ℕ) → List ℕ
+openLine n c = wordsLine openWord n partsWord c
 
 -- "per message clock, due date, part and label", each number with a space after it
 unfoldable pub figure : ℕ → List ℕ
@@ -30,28 +24,16 @@ unfoldable pub messageLine : (clock due part : ℕ) → List ℕ → List ℕ
 messageLine k due p label = figure k ++ (figure due ++ (figure p ++ (label ++ (newline ∷ []))))
 
 -- "`no N` for a refused call"; "`bad L` for line L that it can't read or that comes out of turn"
-unfoldable pub noLine : ℕ → List ℕ
-noLine n = noWord ++ (decimal n ++ (newline ∷ []))
+abbrev pub noLine : ℕ → List ℕ
+noLine n = wordLine noWord n
 
-unfoldable pub badLine : ℕ → List ℕ
-badLine l = badWord ++ (decimal l ++ (newline ∷ []))
+abbrev pub badLine : ℕ → List ℕ
+badLine l = wordLine badWord l
 
 -- "last `end K sent S` (clock and total, both 0 without a session)"
-unfoldable pub endLine : (clock total : ℕ) → List ℕ
-endLine k s = endWord ++ (decimal k ++ (sentWord ++ (decimal s ++ (newline ∷ []))))
+abbrev pub endLine : (clock total : ℕ) → List ℕ
+endLine k s = wordsLine endWord k sentWord s
 
--- ---- laid out in lent bytes
-
--- The longest label, and room for any line.
-abbrev pub longestLabel : ℕ
-longestLabel = 48
-
+-- Room for any line without a label; a message's line needs its label's bytes besides.
 abbrev pub lineRoom : ℕ
-lineRoom = 128
-
--- The line stands at the front of the bytes, up to r, and the others stay.
-pub record Printed (line out new : List ℕ) (r : ℕ) : Type 0 where
-  pub bytes : take r new ≡ line
-  pub others : drop r new ≡ drop r out
-  pub within : r ≤ length new
-  pub size : length new ≡ length out
+lineRoom = 64

@@ -1,8 +1,6 @@
 -- The fixed words of `play`, in ASCII.
-use Prim.Native.Nat.{ℕ, suc}
+use Prim.Native.Nat.{ℕ}
 use mathlib.Core.List.{List, [], _∷_}
-use lib.Dec.{eqb}
-use Rattle.base.specs.Tests.{pick}
 
 -- "`O parts tempo` (first, once), `H event tempo`, `T ms`"
 abbrev pub openCommand : List ℕ
@@ -35,20 +33,3 @@ endWord = 101 ∷ 110 ∷ 100 ∷ 32 ∷ []
 
 abbrev pub sentWord : List ℕ
 sentWord = 32 ∷ 115 ∷ 101 ∷ 110 ∷ 116 ∷ 32 ∷ []
-
-abbrev pub space : ℕ
-space = 32
-
-abbrev pub newline : ℕ
-newline = 10
-
-abbrev pub zeroDigit : ℕ
-zeroDigit = 48
-
-abbrev pub nineDigit : ℕ
-nineDigit = 57
-
--- How many bytes stand before the first that is this one.
-unfoldable pub bytesBefore : ℕ → List ℕ → ℕ
-bytesBefore stop [] = 0
-bytesBefore stop (b ∷ bs) = pick (eqb b stop) 0 (suc (bytesBefore stop bs))

@@ -2,11 +2,11 @@
 ghost use mathlib.Core.Path.{_≡_};
 ghost use Rattle.lines.specs.Commands.{pairOf, openOf, hearOf, passOf, commandOf, inTurn};
 use crate::Command;
-use crate::numbers::Number;
-use crate::numbers::read_number;
-use crate::words::SPACE;
-use crate::words::begins;
-use crate::words::bytes_before;
+use ascii::Number;
+use ascii::SPACE;
+use ascii::begins;
+use ascii::bytes_before;
+use ascii::read_number;
 
 const MOST_PARTS: u64 = 65535;
 

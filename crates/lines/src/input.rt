@@ -3,9 +3,9 @@ ghost use mathlib.Core.Path.{_≡_};
 ghost use Prim.Native.Nat.{min};
 ghost use Rattle.lines.specs.Input.{Feedable, Feeds};
 use crate::Fed;
-use crate::laying::put_bytes;
-use crate::words::NEWLINE;
-use crate::words::bytes_before;
+use ascii::NEWLINE;
+use ascii::bytes_before;
+use ascii::put_bytes;
 
 const KEPT_BYTES: usize = 24;
 

@@ -9,10 +9,7 @@ pub use output::open_line;
 
 mod commands;
 mod input;
-mod laying;
-mod numbers;
 mod output;
-mod words;
 
 // A line read as a command; Bad where it can't be, or where it comes out of turn.
 pub enum Command {

@@ -1,0 +1,65 @@
+-- Bytes laid one behind the other are laid as one.
+-- Assumes nothing.
+use mathlib.Core.Path.{_≡_, refl, sym, ap, _∙_}
+use mathlib.Core.List.{List, [], _∷_, _++_, append-assoc, append-nil}
+use Prim.Native.Nat.{ℕ, _+_, _-_, _<_, _≤_}
+use native.Mathlib.Numerals.{add-one}
+use native.Mathlib.Omega.{arith}
+use lib.ListN.{length, take, drop, getD, set, length-append, length-set}
+use lib.Seq.{take-suc, take-length, take-suc-set, drop-set-lt, drop-drop}
+use borrow.Author.Needs.{needs}
+use Rattle.ascii.specs.Laying.{Laid}
+
+-- where two lists agree from a place on, they agree from any later one on
+drop-further : (xs ys : List ℕ) (a b : ℕ) → drop a xs ≡ drop a ys → a ≤ b → drop b xs ≡ drop b ys
+drop-further xs ys a b e p =
+    let s : b ≡ a + (b - a) = omega arith in
+    let f : (l : List ℕ) → drop b l ≡ drop (b - a) (drop a l) = λ l. ap (λ (k : ℕ). drop k l) s ∙ sym (drop-drop (b - a) a l) in
+    f xs ∙ ap (λ (l : List ℕ). drop (b - a) l) e ∙ sym (f ys)
+
+pub laid-join : (o m n xs ys : List ℕ) (a b r : ℕ) → Laid o a xs m b → Laid m b ys n r → Laid o a (xs ++ ys) n r
+laid-join o m n xs ys a b r p q =
+    let s : b ≡ a + length xs = p .stop in
+    let t : r ≡ b + length ys = q .stop in
+    let l : b ≤ r = omega arith in
+    record {
+      front = q .front ∙ ap (λ (l : List ℕ). l ++ ys) (p .front) ∙ append-assoc (take a o) xs ys;
+      others = q .others ∙ drop-further m o b r (p .others) l;
+      stop = omega (arith, length-append xs ys);
+      within = q .within;
+      size = q .size ∙ p .size;
+    }
+
+pub laid-byte : (o : List ℕ) (a b : ℕ) → a + 1 ≤ length o → Laid o a (b ∷ []) (set o a b) (a + 1)
+laid-byte o a b p =
+    let l : a < length o = omega arith in
+    record {
+      front = rw (add-one) (take-suc-set o a b l);
+      others = drop-set-lt (a + 1) o a b (omega arith);
+      stop = refl;
+      within = rw (length-set o a b) p;
+      size = length-set o a b;
+    }
+
+-- ---- byte by byte
+
+pub laid-none : (o s : List ℕ) (a : ℕ) → a + length s ≤ length o → Laid o a (take 0 s) o (a + 0)
+laid-none o s a p =
+    let z : a + 0 ≡ a = omega arith in
+    record { front = rw z (sym (append-nil (take a o))); others = refl; stop = refl; within = omega arith; size = refl }
+
+module _ (o s m : List ℕ) (a i : ℕ) (laid : Laid o a (take i s) m (a + i)) where
+  pub laid-step : i < length s → a + length s ≤ length o → Laid o a (take (i + 1) s) (set m (a + i) (getD s i 0)) (a + (i + 1))
+  laid-step p q =
+      let e : length m ≡ length o = laid .size in
+      let z : a + i + 1 ≡ a + (i + 1) = omega arith in
+      let r : Laid o a (take i s ++ (getD s i 0 ∷ [])) (set m (a + i) (getD s i 0)) (a + i + 1) = laid-join o m _ _ _ a (a + i) _ laid (laid-byte m (a + i) (getD s i 0) (omega arith)) in
+      let t : take (i + 1) s ≡ take i s ++ (getD s i 0 ∷ []) = rw add-one (take-suc s i 0 p) in
+      rw (t, ← z) r
+
+  pub laid-whole : i ≤ length s → length s ≤ i → Laid o a s m (a + length s)
+  laid-whole p q =
+      let e : i ≡ length s = omega arith in
+      rw (e, take-length s) at laid
+
+pub ruleset copying = (laid-none, laid-step, laid-whole, laid-byte, needs)
