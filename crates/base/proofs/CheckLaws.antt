@@ -6,7 +6,8 @@ use mathlib.Core.List.{List, [], _∷_}
 use Prim.Native.Nat.{ℕ}
 use native.Mathlib.Omega.{arith}
 use Rattle.base.specs.Checks.{Check, fine, refused, need, firstFault, renamed}
-use Rattle.base.proofs.TestLaws.{tests}
+use borrow.Author.Tests.{le-leb, lt-leb, lt-ltb, le-ltb}
+use Rattle.base.proofs.TestLaws.{told-true, told-false, between-in, between-under, between-over, tests}
 
 module _ {X : Type 0} where
   -- ---- from the tests to the answer
@@ -60,4 +61,8 @@ module _ {X Y : Type 0} (g : X → Y) where
   renamed-fine (refused x) e = let z : _≡_ {A = ℕ} 0 1 = cc in absurd (omega arith)
 
 -- the tests of a chain of early returns
-pub ruleset faults = (first-end, first-pass, first-stop, renamed-pass, renamed-stop, tests)
+pub ruleset faults = (first-end, first-pass, first-stop, tests)
+
+-- the same, where a call told the answer of a test
+pub ruleset checks =
+    (first-end, first-pass, first-stop, told-true, told-false, between-in, between-under, between-over, le-leb, lt-leb, lt-ltb, le-ltb)

@@ -5,8 +5,8 @@ use mathlib.Core.List.{List, [], _∷_, _++_, append-assoc}
 use Prim.Native.Nat.{ℕ, zero, suc, _+_, _*_, _/_, _%_, _<_, _≤_}
 use native.Mathlib.Omega.{arith}
 use native.Mathlib.Numerals.{add-one}
-use lib.ListN.{length, getD, drop, length-drop}
-use lib.Seq.{take-add, drop-drop, drop-cons, length-take-le, take-append-seam, drop-append-seam, getD-drop}
+use lib.ListN.{length, getD, drop}
+use lib.Seq.{take-add, drop-drop, drop-cons, take-append-seam, drop-append-seam, getD-drop}
 use Rattle.score.specs.Bytes.{byteAt, u16At, u32At, part}
 use Rattle.score.specs.Encode.{le16, le32}
 

@@ -7,26 +7,25 @@ use Prim.Native.Nat.{ℕ, zero, suc, _+_, _-_, _*_, _<_, _≤_}
 use native.Mathlib.Omega.{arith}
 use lib.ListN.{length, getD}
 use lib.Seq.{take-all}
-use borrow.Author.Tests.{leb-true, eqb-true}
-use Rattle.base.specs.Tests.{every, between}
-use Rattle.base.proofs.TestLaws.{every-head, every-rest}
-use Rattle.score.specs.declared.Verdict.the-variants.{Fine}
-use Rattle.score.specs.declared.Fault.the-variants.{BadMessage, TextLeft}
-use Rattle.score.specs.declared.Counts.{Counts}
-use Rattle.score.specs.Limits.{eventSize, itemSize, messageSize, longestLabel}
+use borrow.Author.Tests.{eqb-true}
+use Rattle.base.specs.Tests.{every}
+use Rattle.base.specs.Checks.{fine}
+use Rattle.base.proofs.CheckLaws.{need-fine}
+use Rattle.score.specs.declared.Fault.the-variants.{TextLeft}
+use Rattle.score.specs.declared.contents.Counts.{Counts}
+use Rattle.score.specs.Limits.{eventSize, itemSize, messageSize}
 use Rattle.score.specs.Bytes.{u16At, part}
 use Rattle.score.specs.Contents.{offsetsOf, countsOf, eventsAt, itemsAt, messagesAt, textAt, sizeOf}
 use Rattle.score.specs.Events.{durationsAt}
 use Rattle.score.specs.Items.{itemAt, itemsFrom}
-use Rattle.score.specs.Messages.{readable, labelAt, labelsAt, messageRight, messagesRight}
+use Rattle.score.specs.Messages.{readable, labelAt, labelsAt, messagesRight}
 use Rattle.score.specs.Piece.{decode}
 use Rattle.score.specs.File.{Accepted}
 use Rattle.score.specs.Encode.{le16, le32, contentsBytes, durationBytes, itemBytes, entryBytes, textBytes, countsIn, encode, labelsRight, Lawful}
-use Rattle.score.proofs.Verdicts.{need-fine, holds, first-head, first-rest}
 use Rattle.score.proofs.EncodingBytes.{part-add, part-none, part-four, le16-part, le32-part}
-use Rattle.score.proofs.Tables.{durations-length, items-length, labels-length, part-length}
-use Rattle.score.proofs.ContentsLaws.{Placed, offsets-held}
-use Rattle.score.proofs.Accepted.{file-long, file-counts, file-offsets, file-sized, file-events, file-items, file-messages}
+use Rattle.score.proofs.Decoded.{durations-length, items-length, labels-length, part-length}
+use Rattle.score.proofs.ContentsLaws.{RightOffsets, offsets-held}
+use Rattle.score.proofs.Accepted.{file-long, file-counts, file-offsets, file-sized, file-events, file-items, file-messages, Entry, entry-first, entries-rest}
 
 -- ---- a file in parts
 
@@ -52,42 +51,16 @@ file-parts f c e =
 -- ---- the labels of right entries: the entries and labels from the entry at the byte at on, which starts at from
 
 module _ (f : List ℕ) (c : Counts) (fits : sizeOf c ≤ length f) where
-  record Entry (at from : ℕ) : Type 0 where
-    start : u16At f at ≡ from
-    size : between 1 longestLabel (u16At f (at + 2)) ≡ true
-    within : from + u16At f (at + 2) ≤ c .text
-    read : readable (part f (textAt c + from) (u16At f (at + 2))) ≡ true
-
-  entry-right : (at from : ℕ) → messageRight f c at from ≡ true → Entry at from
-  unfolding messageRight
-  entry-right at from e =
-      let e₁ = every-rest _ _ e in
-      let e₂ = every-rest _ _ e₁ in
-      record {
-        start = eqb-true _ _ (every-head _ _ e);
-        size = every-head _ _ e₁;
-        within = leb-true _ _ (every-head _ _ e₂);
-        read = every-head _ _ (every-rest _ _ e₂);
-      }
-
-  label-part : (at from : ℕ) → Entry at from → labelAt f c at ≡ part f (textAt c + from) (u16At f (at + 2))
+  label-part : (at from : ℕ) → Entry f c at from → labelAt f c at ≡ part f (textAt c + from) (u16At f (at + 2))
   unfolding labelAt
   label-part at from r = rw (r .start)
 
-  label-length : (at from : ℕ) → Entry at from → length (labelAt f c at) ≡ u16At f (at + 2)
+  label-length : (at from : ℕ) → Entry f c at from → length (labelAt f c at) ≡ u16At f (at + 2)
   label-length at from r =
-      let w : from + u16At f (at + 2) ≤ c .text = r .within in
+      let w : from + u16At f (at + 2) ≤ c .text = r .fits in
       rw (label-part at from r) (part-length f (textAt c + from) (u16At f (at + 2)) (omega arith))
 
-  messages-entry : (count at from : ℕ) → messagesRight f c at (suc count) from ≡ Fine → Entry at from
-  unfolding messagesRight
-  messages-entry count at from e = entry-right at from (holds _ (BadMessage at) _ e)
-
-  messages-rest : (count at from : ℕ) → messagesRight f c at (suc count) from ≡ Fine → messagesRight f c (at + messageSize) count (from + u16At f (at + 2)) ≡ Fine
-  unfolding messagesRight
-  messages-rest count at from e = first-head _ _ (first-rest _ _ e)
-
-  text-part : (count at from : ℕ) → messagesRight f c at count from ≡ Fine
+  text-part : (count at from : ℕ) → messagesRight f c at count from ≡ fine
       → (from ≤ c .text) × (textBytes (labelsAt f c at count) ≡ part f (textAt c + from) (c .text - from))
   unfolding messagesRight textBytes labelsAt
   text-part zero at from e =
@@ -95,28 +68,28 @@ module _ (f : List ℕ) (c : Counts) (fits : sizeOf c ≤ length f) where
       let z : c .text - from ≡ 0 = omega arith in
       (omega arith, rw z (sym (part-none f _)))
   text-part (suc count) at from e =
-      let r = messages-entry count at from e in
+      let r = entry-first f c at from count e in
       let n = u16At f (at + 2) in
-      let l : from + n ≤ c .text = r .within in
-      let rest = text-part count (at + messageSize) (from + n) (messages-rest count at from e) in
+      let l : from + n ≤ c .text = r .fits in
+      let rest = text-part count (at + messageSize) (from + n) (entries-rest f c at from count e) in
       let a : textAt c + (from + n) ≡ textAt c + from + n = omega arith in
       let b : c .text - from ≡ n + (c .text - (from + n)) = omega arith in
       (omega arith, rw (label-part at from r, rest .1, a, b) (sym (part-add f (textAt c + from) n _)))
 
-  labels-right : (count at from : ℕ) → messagesRight f c at count from ≡ Fine → labelsRight (labelsAt f c at count) ≡ true
+  labels-right : (count at from : ℕ) → messagesRight f c at count from ≡ fine → labelsRight (labelsAt f c at count) ≡ true
   unfolding labelsRight labelsAt every
   labels-right zero at from e = refl
   labels-right (suc count) at from e =
-      let r = messages-entry count at from e in
+      let r = entry-first f c at from count e in
       let read : readable (labelAt f c at) ≡ true = rw (label-part at from r) (r .read) in
-      rw (label-length at from r, r .size, read, labels-right count (at + messageSize) _ (messages-rest count at from e))
+      rw (label-length at from r, r .size, read, labels-right count (at + messageSize) _ (entries-rest f c at from count e))
 
   module _ (bytes : (i : ℕ) → getD f i 0 < 256) where
-    entries-part : (count at from : ℕ) → messagesRight f c at count from ≡ Fine → at + messageSize * count ≤ length f → entryBytes from (labelsAt f c at count) ≡ part f at (messageSize * count)
+    entries-part : (count at from : ℕ) → messagesRight f c at count from ≡ fine → at + messageSize * count ≤ length f → entryBytes from (labelsAt f c at count) ≡ part f at (messageSize * count)
     unfolding entryBytes labelsAt
     entries-part zero at from e p = sym (part-none f at)
     entries-part (suc count) at from e p =
-        let r = messages-entry count at from e in
+        let r = entry-first f c at from count e in
         let s : messageSize * suc count ≡ 2 + (2 + messageSize * count) = omega arith in
         let a : at + 2 + 2 ≡ at + messageSize = omega arith in
         let start : le16 from ≡ part f at 2 = ap le16 (sym (r .start)) ∙ le16-part f bytes at (omega arith) in
@@ -124,7 +97,7 @@ module _ (f : List ℕ) (c : Counts) (fits : sizeOf c ≤ length f) where
           label-length at from r,
           start,
           le16-part f bytes (at + 2) (omega arith),
-          entries-part count (at + messageSize) _ (messages-rest count at from e) (omega arith),
+          entries-part count (at + messageSize) _ (entries-rest f c at from count e) (omega arith),
           s,
           part-add f at 2 _,
           part-add f (at + 2) 2 _,
@@ -165,7 +138,7 @@ module _ (f : List ℕ) (bytes : (i : ℕ) → getD f i 0 < 256) where
         items-part count (at + itemSize) (omega arith),
       )
 
-  contents-part : 32 ≤ length f → Placed (offsetsOf f) (countsOf f) (length f) → contentsBytes (countsOf f) ≡ part f 0 32
+  contents-part : 32 ≤ length f → RightOffsets (offsetsOf f) (countsOf f) (length f) → contentsBytes (countsOf f) ≡ part f 0 32
   unfolding contentsBytes offsetsOf countsOf
   contents-part p o =
       let events : le32 eventsAt ≡ part f 0 4 = ap le32 (sym (o .events)) ∙ le32-part f bytes 0 (omega arith) in

@@ -9,12 +9,12 @@ use lib.ListN.{length, getD, drop, length-append}
 use lib.Dec.{leb}
 use borrow.Author.Tests.{eq-eqb, le-leb}
 use Rattle.page.specs.declared.Item.{Item}
+use Rattle.base.specs.Checks.{fine, need, firstFault}
 use Rattle.base.proofs.TestLaws.{every-head, every-rest, between-high}
-use Rattle.score.specs.declared.Verdict.the-variants.{Fine}
+use Rattle.base.proofs.CheckLaws.{first-head, first-rest, first-holds}
 use Rattle.score.specs.declared.Fault.the-variants.{BadEvent}
-use Rattle.score.specs.declared.Counts.{Counts}
+use Rattle.score.specs.declared.contents.Counts.{Counts}
 use Rattle.score.specs.Limits.{contentsSize, eventSize, itemSize, messageSize, longest, longestLabel, mostText}
-use Rattle.score.specs.Replies.{need, first}
 use Rattle.score.specs.Contents.{offsetsOf, countsOf, countsRight, offsetsRight, eventsAt, itemsAt, messagesAt, textAt, sizeOf}
 use Rattle.score.specs.Events.{durationsAt, eventsRight}
 use Rattle.score.specs.Items.{itemsFrom}
@@ -22,8 +22,7 @@ use Rattle.score.specs.Messages.{labelByte, readable, labelsAt, messages
 use Rattle.score.specs.Piece.{Piece, decode}
 use Rattle.score.specs.File.{bodiesRight, checked, Accepted}
 use Rattle.score.specs.Encode.{le16, le32, contentsBytes, durationBytes, itemBytes, entryBytes, textBytes, countsIn, encode, labelsRight, Lawful}
-use Rattle.score.specs.Asked.{Counted}
-use Rattle.score.proofs.Verdicts.{holds, first-head, first-rest}
+use Rattle.score.specs.Inner.{Counted}
 use Rattle.score.proofs.EncodingBytes.{Bytes, empty, byte, bytes-append, bytes-at, le16-bytes, le32-bytes, le32-length, drop-on}
 use Rattle.score.proofs.ContentsLaws.{counts-held}
 use Rattle.score.proofs.Ranges.{Ranges, none, more, table-ranges}
@@ -103,7 +102,7 @@ module _ (p : Piece) (l : Lawful p) where
   unfolding countsIn
   labels-encode = labels-read (encode p) (countsIn p) (messagesAt (countsIn p)) 0 (p .labels) _ entries
 
-  messages-encode : messagesRight (encode p) (countsIn p) (messagesAt (countsIn p)) (countsIn p .messages) 0 ≡ Fine
+  messages-encode : messagesRight (encode p) (countsIn p) (messagesAt (countsIn p)) (countsIn p .messages) 0 ≡ fine
   unfolding countsIn
   messages-encode = messages-right (encode p) (countsIn p) (messagesAt (countsIn p)) 0 (p .labels) _ entries
 
@@ -118,22 +117,22 @@ pub decode-encode : (p : Piece) → Lawful p → decode (encode p) ≡ p
 unfolding decode
 decode-encode p l = rw (counts-encode p l, durations-encode p l, items-encode p l, labels-encode p l)
 
-bodies-encode : (p : Piece) → Lawful p → bodiesRight (encode p) (countsIn p) ≡ Fine
-unfolding bodiesRight first
+bodies-encode : (p : Piece) → Lawful p → bodiesRight (encode p) (countsIn p) ≡ fine
+unfolding bodiesRight firstFault
 bodies-encode p l = rw (decode-encode p l, l .durations, l .items, messages-encode p l)
 
-offsets-right : (c : Counts) → offsetsRight (offsetsIn c) c (sizeOf c) ≡ Fine
-unfolding offsetsRight first need
+offsets-right : (c : Counts) → offsetsRight (offsetsIn c) c (sizeOf c) ≡ fine
+unfolding offsetsRight firstFault need
 offsets-right c = rw (eq-eqb (itemsAt c) _ refl, eq-eqb (messagesAt c) _ refl, eq-eqb (textAt c) _ refl, eq-eqb (sizeOf c) _ refl)
 
-encode-fine : (p : Piece) → Lawful p → checked (encode p) ≡ Fine
-unfolding checked first need
+encode-fine : (p : Piece) → Lawful p → checked (encode p) ≡ fine
+unfolding checked firstFault need
 encode-fine p l =
     let f = encode p in
     let long : leb contentsSize (length f) ≡ true = le-leb contentsSize (length f) (omega (arith, size-encode p)) in
-    let counts : countsRight (countsOf f) ≡ Fine = rw (counts-encode p l) (l .counts) in
-    let offsets : offsetsRight (offsetsOf f) (countsOf f) (length f) ≡ Fine = rw (offsets-encode p l, counts-encode p l, size-encode p) (offsets-right (countsIn p)) in
-    let bodies : bodiesRight f (countsOf f) ≡ Fine = rw (counts-encode p l) (bodies-encode p l) in
+    let counts : countsRight (countsOf f) ≡ fine = rw (counts-encode p l) (l .counts) in
+    let offsets : offsetsRight (offsetsOf f) (countsOf f) (length f) ≡ fine = rw (offsets-encode p l, counts-encode p l, size-encode p) (offsets-right (countsIn p)) in
+    let bodies : bodiesRight f (countsOf f) ≡ fine = rw (counts-encode p l) (bodies-encode p l) in
     rw (long, counts, offsets, bodies)
 
 -- A lawful piece's file is accepted.
@@ -142,11 +141,11 @@ encode-accepted p l = record { fine = encode-fine p l }
 
 -- ---- a lawful piece's file has bytes only
 
-durations-bytes : (q : ℕ) (ds : List ℕ) → eventsRight q ds ≡ Fine → Bytes (durationBytes ds)
+durations-bytes : (q : ℕ) (ds : List ℕ) → eventsRight q ds ≡ fine → Bytes (durationBytes ds)
 unfolding eventsRight durationBytes
 durations-bytes q [] e = empty
 durations-bytes q (d ∷ ds) e =
-    let small : d ≤ longest = between-high _ _ _ (holds _ (BadEvent q) _ e) in
+    let small : d ≤ longest = between-high _ _ _ (first-holds _ (BadEvent q) _ e) in
     bytes-append (le32-bytes d (omega arith)) (durations-bytes (q + eventSize) ds (first-head _ _ (first-rest _ _ e)))
 
 items-bytes : {is : List Item} → Ranges is → Bytes (itemBytes is)

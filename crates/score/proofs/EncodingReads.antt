@@ -9,32 +9,31 @@ use lib.ListN.{length, drop, length-append}
 use borrow.Author.Tests.{eq-eqb, le-leb}
 use Rattle.page.specs.declared.Item.{Item}
 use Rattle.base.specs.Tests.{every, between}
+use Rattle.base.specs.Checks.{fine, need, firstFault}
 use Rattle.base.proofs.TestLaws.{every-head, every-rest, between-high}
-use Rattle.score.specs.declared.Verdict.the-variants.{Fine}
+use Rattle.base.proofs.CheckLaws.{first-head, first-rest, first-holds}
 use Rattle.score.specs.declared.Fault.the-variants.{BadEvent}
-use Rattle.score.specs.declared.Counts.{Counts}
-use Rattle.score.specs.declared.Offsets.{Offsets}
+use Rattle.score.specs.declared.contents.Counts.{Counts}
+use Rattle.score.specs.declared.contents.Offsets.{Offsets}
 use Rattle.score.specs.Limits.{contentsSize, eventSize, itemSize, messageSize, longest, longestLabel, mostText}
 use Rattle.score.specs.Bytes.{byteAt, u16At, u32At, part}
-use Rattle.score.specs.Replies.{need, first}
 use Rattle.score.specs.Contents.{offsetsOf, countsOf, eventsAt, itemsAt, messagesAt, textAt}
 use Rattle.score.specs.Events.{durationsAt, eventsRight}
 use Rattle.score.specs.Items.{itemAt, itemsFrom}
 use Rattle.score.specs.Messages.{readable, labelAt, labelsAt, messageRight, messagesRight}
 use Rattle.score.specs.Encode.{le16, le32, contentsBytes, durationBytes, itemBytes, entryBytes, textBytes, labelsRight}
 use Rattle.score.specs.Readers.{Ranged}
-use Rattle.score.specs.Asked.{Counted}
-use Rattle.score.proofs.Verdicts.{holds, first-head, first-rest}
+use Rattle.score.specs.Inner.{Counted}
 use Rattle.score.proofs.EncodingBytes.{drop-on, part-read, byte-read, byte-first, u16-on, u16-read, u32-on, u32-read}
 use Rattle.score.proofs.Ranges.{Ranges, none, more}
 
 -- ---- the durations
 
-pub durations-read : (f : List ℕ) (at q : ℕ) (ds ys : List ℕ) → eventsRight q ds ≡ Fine → drop at f ≡ durationBytes ds ++ ys → durationsAt f at (length ds) ≡ ds
+pub durations-read : (f : List ℕ) (at q : ℕ) (ds ys : List ℕ) → eventsRight q ds ≡ fine → drop at f ≡ durationBytes ds ++ ys → durationsAt f at (length ds) ≡ ds
 unfolding eventsRight durationBytes durationsAt
 durations-read f at q [] ys e d = refl
 durations-read f at q (x ∷ ds) ys e d =
-    let small : x ≤ longest = between-high _ _ _ (holds _ (BadEvent q) _ e) in
+    let small : x ≤ longest = between-high _ _ _ (first-holds _ (BadEvent q) _ e) in
     let d₁ : drop at f ≡ le32 x ++ (durationBytes ds ++ ys) = d ∙ append-assoc (le32 x) (durationBytes ds) ys in
     rw (
       u32-read f at x _ (omega arith) d₁,
@@ -145,8 +144,8 @@ module _ (f : List ℕ) (c : Counts) where
   labels-read at from (l ∷ ls) ys s =
       rw (label-read f c at from l ls ys s, labels-read (at + messageSize) (from + length l) ls ys (next-entries f c at from l ls ys s))
 
-  pub messages-right : (at from : ℕ) (ls : List (List ℕ)) (ys : List ℕ) → Entries f c at from ls ys → messagesRight f c at (length ls) from ≡ Fine
-  unfolding messagesRight first need textBytes
+  pub messages-right : (at from : ℕ) (ls : List (List ℕ)) (ys : List ℕ) → Entries f c at from ls ys → messagesRight f c at (length ls) from ≡ fine
+  unfolding messagesRight firstFault need textBytes
   messages-right at from [] ys s = rw (eq-eqb from (c .text) (omega (arith, s .whole)))
   messages-right at from (l ∷ ls) ys s =
       rw (

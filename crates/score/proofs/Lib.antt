@@ -1,14 +1,14 @@
 -- Laws of the file check and of the file, for the proofs of several functions and for the layers above.
 pub mod Verdicts
-pub mod Tables
+pub mod Decoded
 pub mod ContentsLaws
 pub mod EventSteps
 pub mod MessageSteps
-pub mod WalkEnds
+pub mod Accepted
+pub mod Walked
 pub mod WalkLaws
 pub mod WalkSteps
 pub mod FileSteps
-pub mod Accepted
 pub mod Ranges
 pub mod Readers
 pub mod LookUps

@@ -1,69 +1,60 @@
 -- The text look-up: its two answers in the code's own terms, that they always agree, and which label is handed out.
 -- Every entry of a right table lies within the text and is not empty. Assumes nothing.
 use mathlib.Core.Path.{_≡_, refl, sym, _∙_}
-use mathlib.Core.Bool.{true}
 use mathlib.Core.List.{List, []}
 use Prim.Native.Nat.{ℕ, zero, suc, _+_, _-_, _*_, _<_, _≤_}
 use native.Mathlib.Omega.{arith}
 use lib.ListN.{length, getD}
-use borrow.Author.Tests.{le-ltb, lt-ltb, leb-true, eqb-true, ltb-true}
+use borrow.Author.Tests.{le-ltb, lt-ltb, ltb-true}
 use borrow.Author.Needs.{needs}
 use borrow.Rule.Slice.PartAt.{slPart}
 use denote.Ref.{RefT}
-use Rattle.base.proofs.TestLaws.{every-head, every-rest, between-low, between-high}
+use Rattle.base.specs.Checks.{Check, fine, refused}
+use Rattle.base.proofs.TestLaws.{between-low, between-high}
+use Rattle.base.proofs.CheckLaws.{first-head, first-rest, first-holds}
 use Rattle.score.specs.declared.Verdict.{Verdict}
 use Rattle.score.specs.declared.Verdict.the-variants.{Fine, Refused}
 use Rattle.score.specs.declared.Fault.{Fault}
 use Rattle.score.specs.declared.Fault.the-variants.{NoMessage}
-use Rattle.score.specs.declared.Counts.{Counts}
-use Rattle.score.specs.declared.Span.{Span}
+use Rattle.score.specs.declared.contents.Counts.{Counts}
+use Rattle.score.specs.declared.look_up.Span.{Span}
 use Rattle.score.specs.Limits.{contentsSize, messageSize, longestLabel}
 use Rattle.score.specs.Bytes.{u16At, part}
+use Rattle.score.specs.Replies.{verdictOf}
 use Rattle.score.specs.Contents.{countsOf, messagesAt, textAt, sizeOf}
-use Rattle.score.specs.Messages.{labelAt, messageRight, messagesRight}
+use Rattle.score.specs.Messages.{labelAt, messagesRight}
 use Rattle.score.specs.Piece.{decode}
 use Rattle.score.specs.File.{checked, Accepted}
 use Rattle.score.specs.LookUp.{labelReply, granted, labelSpan, Part}
-use Rattle.score.specs.Asked.{Granted}
-use Rattle.score.proofs.Verdicts.{first-end, first-pass, first-stop, told-fine, told-fault, holds, first-head, first-rest}
-use Rattle.score.proofs.Tables.{labels-at, part-length}
-use Rattle.score.proofs.Accepted.{accepted-told, file-long, file-sized, file-messages}
+use Rattle.score.specs.Inner.{Granted}
+use Rattle.score.proofs.Verdicts.{verdict-fine, verdict-refused, verdict-end, verdict-pass, verdict-stop, told-fine, told-fault}
+use Rattle.score.proofs.Decoded.{labels-at, part-length}
+use Rattle.score.proofs.Accepted.{accepted-told, file-long, file-sized, file-messages, Entry, entry-first, entries-rest}
 
 -- ---- an entry of a right table
 
-record Entry (f : List ℕ) (c : Counts) (at : ℕ) : Type 0 where
-  pub fits : u16At f at + u16At f (at + 2) ≤ c .text
-  pub some : 1 ≤ u16At f (at + 2)
-  pub short : u16At f (at + 2) ≤ longestLabel
-
-entry-of : (f : List ℕ) (c : Counts) (at from : ℕ) → messageRight f c at from ≡ true → Entry f c at
-unfolding messageRight
-entry-of f c at from r =
-    let s : u16At f at ≡ from = eqb-true _ _ (every-head _ _ r) in
-    let l : from + u16At f (at + 2) ≤ c .text = leb-true _ _ (every-head _ _ (every-rest _ _ (every-rest _ _ r))) in
-    let size = every-head _ _ (every-rest _ _ r) in
-    record { fits = omega arith; some = between-low _ _ _ size; short = between-high _ _ _ size }
-
-nth-entry : (f : List ℕ) (c : Counts) (n k at from : ℕ) → messagesRight f c at k from ≡ Fine → n < k → Entry f c (at + messageSize * n)
-unfolding messagesRight
+nth-entry : (f : List ℕ) (c : Counts) (n k at from : ℕ) → messagesRight f c at k from ≡ fine → n < k → Entry f c (at + messageSize * n) (u16At f (at + messageSize * n))
 nth-entry f c n zero at from e p = absurd (omega arith)
-nth-entry f c zero (suc k) at from e p = let z : at + messageSize * 0 ≡ at = omega arith in rw z (entry-of f c at from (holds _ _ _ e))
+nth-entry f c zero (suc k) at from e p =
+    let z : at + messageSize * 0 ≡ at = omega arith in
+    let r = entry-first f c at from k e in
+    rw (z, r .start) r
 nth-entry f c (suc n) (suc k) at from e p =
     let z : at + messageSize * suc n ≡ at + messageSize + messageSize * n = omega arith in
-    rw z (nth-entry f c n k (at + messageSize) (from + u16At f (at + 2)) (first-head _ _ (first-rest _ _ e)) (omega arith))
+    rw z (nth-entry f c n k (at + messageSize) (from + u16At f (at + 2)) (entries-rest f c at from k e) (omega arith))
 
 -- ---- a granted look-up
 
-module _ (f : List ℕ) (n : ℕ) (reply : labelReply f n ≡ Fine) where
+module _ (f : List ℕ) (n : ℕ) (reply : labelReply f n ≡ fine) where
   pub granted-file : Accepted f
   unfolding labelReply
   granted-file = record { fine = first-head _ _ reply }
 
   pub granted-below : n < countsOf f .messages
   unfolding labelReply
-  granted-below = ltb-true _ _ (holds _ _ _ (first-rest _ _ reply))
+  granted-below = ltb-true _ _ (first-holds _ _ _ (first-rest _ _ reply))
 
-  granted-entry : Entry f (countsOf f) (messagesAt (countsOf f) + messageSize * n)
+  granted-entry : Entry f (countsOf f) (messagesAt (countsOf f) + messageSize * n) (u16At f (messagesAt (countsOf f) + messageSize * n))
   granted-entry = nth-entry f (countsOf f) n (countsOf f .messages) (messagesAt (countsOf f)) 0 (file-messages f granted-file) granted-below
 
   granted-size : labelSpan f n .size ≡ u16At f (messagesAt (countsOf f) + messageSize * n + 2)
@@ -76,10 +67,10 @@ module _ (f : List ℕ) (n : ℕ) (reply : labelReply f n ≡ Fine) where
 
   -- "A label is never empty"
   pub granted-some : 1 ≤ labelSpan f n .size
-  granted-some = rw granted-size (granted-entry .some)
+  granted-some = rw granted-size (between-low _ _ _ (granted-entry .size))
 
   pub granted-short : labelSpan f n .size ≤ longestLabel
-  granted-short = rw granted-size (granted-entry .short)
+  granted-short = rw granted-size (between-high _ _ _ (granted-entry .size))
 
   pub granted-within : labelSpan f n .start + labelSpan f n .size ≤ length f
   granted-within =
@@ -97,36 +88,36 @@ module _ (f : List ℕ) (n : ℕ) (reply : labelReply f n ≡ Fine) where
 
 -- ---- "so the two always agree"
 
-refused-size : (f : List ℕ) (n : ℕ) (v : Verdict) → labelReply f n ≡ v → 1 ≤ labelSpan f n .size → v ≡ Fine
+refused-size : (f : List ℕ) (n : ℕ) (v : Check Fault) → labelReply f n ≡ v → 1 ≤ labelSpan f n .size → v ≡ fine
 unfolding labelSpan granted
-refused-size f n Fine e p = refl
-refused-size f n (Refused x) e p = let z : 1 ≤ 0 = rw e at p in absurd (omega arith)
+refused-size f n fine e p = refl
+refused-size f n (refused x) e p = let z : 1 ≤ 0 = rw e at p in absurd (omega arith)
 
-pub look-ups-agree : (f : List ℕ) (n : ℕ) → (labelReply f n ≡ Fine → 1 ≤ labelSpan f n .size) × (1 ≤ labelSpan f n .size → labelReply f n ≡ Fine)
+pub look-ups-agree : (f : List ℕ) (n : ℕ) → (labelReply f n ≡ fine → 1 ≤ labelSpan f n .size) × (1 ≤ labelSpan f n .size → labelReply f n ≡ fine)
 look-ups-agree f n = (λ e. granted-some f n e, λ p. refused-size f n (labelReply f n) refl p)
 
 -- the same of the part that is handed out
 module _ (whole handed : RefT (List ℕ)) (n : ℕ) (p : Part whole handed (labelSpan (whole .now) n)) where
-  pub handed-label : labelReply (whole .now) n ≡ Fine → handed .now ≡ getD (decode (whole .now) .labels) n []
+  pub handed-label : labelReply (whole .now) n ≡ fine → handed .now ≡ getD (decode (whole .now) .labels) n []
   unfolding part
   handed-label e = p .bytes ∙ granted-label (whole .now) n e
 
-  handed-length : labelReply (whole .now) n ≡ Fine → length (handed .now) ≡ labelSpan (whole .now) n .size
+  handed-length : labelReply (whole .now) n ≡ fine → length (handed .now) ≡ labelSpan (whole .now) n .size
   unfolding part
   handed-length e = rw (p .bytes) (granted-length (whole .now) n e)
 
-  refused-empty : (v : Verdict) → labelReply (whole .now) n ≡ v → 1 ≤ length (handed .now) → v ≡ Fine
+  refused-empty : (v : Check Fault) → labelReply (whole .now) n ≡ v → 1 ≤ length (handed .now) → v ≡ fine
   unfolding labelSpan granted
-  refused-empty Fine e l = refl
-  refused-empty (Refused x) e l = let z : 1 ≤ 0 = rw (p .bytes, e) at l in absurd (omega arith)
+  refused-empty fine e l = refl
+  refused-empty (refused x) e l = let z : 1 ≤ 0 = rw (p .bytes, e) at l in absurd (omega arith)
 
-  pub handed-agrees : (labelReply (whole .now) n ≡ Fine → 1 ≤ length (handed .now)) × (1 ≤ length (handed .now) → labelReply (whole .now) n ≡ Fine)
+  pub handed-agrees : (labelReply (whole .now) n ≡ fine → 1 ≤ length (handed .now)) × (1 ≤ length (handed .now) → labelReply (whole .now) n ≡ fine)
   handed-agrees = (λ e. rw (handed-length e) (granted-some (whole .now) n e), λ l. refused-empty (labelReply (whole .now) n) refl l)
 
-  short-by : (v : Verdict) → labelReply (whole .now) n ≡ v → length (handed .now) ≤ longestLabel
+  short-by : (v : Check Fault) → labelReply (whole .now) n ≡ v → length (handed .now) ≤ longestLabel
   unfolding labelSpan granted
-  short-by Fine e = rw (handed-length e) (granted-short (whole .now) n e)
-  short-by (Refused x) e = rw (p .bytes, e) (omega arith)
+  short-by fine e = rw (handed-length e) (granted-short (whole .now) n e)
+  short-by (refused x) e = rw (p .bytes, e) (omega arith)
 
   -- "Length 1 to 48", or none
   pub handed-short : length (handed .now) ≤ longestLabel
@@ -134,34 +125,34 @@ module _ (whole handed : RefT (List ℕ)) (n : ℕ) (p : Part whole handed (labe
 
 -- ---- the reply, in the code's terms
 
-pub check-long : (f : List ℕ) (v : Verdict) → v ≡ checked f → v ≡ Fine → contentsSize ≤ length f
+pub check-long : (f : List ℕ) (v : Verdict) → v ≡ verdictOf (checked f) → v ≡ Fine → contentsSize ≤ length f
 check-long f v e p = file-long f (accepted-told f v e p)
 
-module _ (f : List ℕ) (c : Counts) (n : ℕ) (v : Verdict) (e : c ≡ countsOf f) (p : v ≡ checked f) (q : v ≡ Fine) where
-  pub reply-none : c .messages ≤ n → Refused NoMessage ≡ labelReply f n
+module _ (f : List ℕ) (c : Counts) (n : ℕ) (v : Verdict) (e : c ≡ countsOf f) (p : v ≡ verdictOf (checked f)) (q : v ≡ Fine) where
+  pub reply-none : c .messages ≤ n → Refused NoMessage ≡ verdictOf (labelReply f n)
   unfolding labelReply
-  reply-none l = told-fine v (checked f) _ _ p q (first-stop _ NoMessage _ (le-ltb n (countsOf f .messages) (rw e at l)))
+  reply-none l = told-fine v (checked f) _ p _ q (verdict-stop _ NoMessage _ (le-ltb n (countsOf f .messages) (rw e at l)))
 
-  pub reply-fine : n < c .messages → Fine ≡ labelReply f n
+  pub reply-fine : n < c .messages → Fine ≡ verdictOf (labelReply f n)
   unfolding labelReply
-  reply-fine l = told-fine v (checked f) _ _ p q (first-pass _ NoMessage Fine _ (lt-ltb n (countsOf f .messages) (rw e at l)) first-end)
+  reply-fine l = told-fine v (checked f) _ p _ q (verdict-pass _ NoMessage Fine _ (lt-ltb n (countsOf f .messages) (rw e at l)) verdict-end)
 
-pub reply-fault : (f : List ℕ) (n : ℕ) (x : Fault) (v : Verdict) → v ≡ checked f → v ≡ Refused x → v ≡ labelReply f n
+pub reply-fault : (f : List ℕ) (n : ℕ) (x : Fault) (v : Verdict) → v ≡ verdictOf (checked f) → v ≡ Refused x → v ≡ verdictOf (labelReply f n)
 unfolding labelReply
-reply-fault f n x v p q = told-fault v (checked f) x _ p q
+reply-fault f n x v p q = told-fault v (checked f) _ p x q
 
 pub ruleset replies = (check-long, reply-none, reply-fine, reply-fault, needs)
 
 -- ---- the span, in the code's terms
 
-pub reply-long : (f : List ℕ) (n : ℕ) (v : Verdict) → v ≡ labelReply f n → v ≡ Fine → contentsSize ≤ length f
-reply-long f n v e p = file-long f (granted-file f n (sym e ∙ p))
+pub reply-long : (f : List ℕ) (n : ℕ) (v : Verdict) → v ≡ verdictOf (labelReply f n) → v ≡ Fine → contentsSize ≤ length f
+reply-long f n v e p = file-long f (granted-file f n (verdict-fine (labelReply f n) v e p))
 
-pub granted-told : (f : List ℕ) (c : Counts) (n : ℕ) (v : Verdict) → v ≡ labelReply f n → v ≡ Fine → c ≡ countsOf f → Granted f c n
+pub granted-told : (f : List ℕ) (c : Counts) (n : ℕ) (v : Verdict) → v ≡ verdictOf (labelReply f n) → v ≡ Fine → c ≡ countsOf f → Granted f c n
 granted-told f c n v e p s =
-    let r = sym e ∙ p in
+    let r = verdict-fine (labelReply f n) v e p in
     record {
-      laid = record { counts = s; sized = rw s (file-sized f (granted-file f n r)) };
+      contents = record { counts = s; sized = rw s (file-sized f (granted-file f n r)) };
       reply = r;
       below = rw s (granted-below f n r);
       fits = rw s (granted-entry f n r .fits);
@@ -170,19 +161,19 @@ granted-told f c n v e p s =
 abbrev nowhere : Span
 nowhere = record { start = 0; size = 0 }
 
-pub span-refused : (f : List ℕ) (n : ℕ) (x : Fault) (v : Verdict) → v ≡ labelReply f n → v ≡ Refused x → nowhere ≡ labelSpan f n
+pub span-refused : (f : List ℕ) (n : ℕ) (x : Fault) (v : Verdict) → v ≡ verdictOf (labelReply f n) → v ≡ Refused x → nowhere ≡ labelSpan f n
 unfolding labelSpan granted
-span-refused f n x v p q = rw (← p, q)
+span-refused f n x v p q = rw (verdict-refused (labelReply f n) v x p q)
 
 module _ (f : List ℕ) (c : Counts) (n at text start size : ℕ) (g : Granted f c n) (ea : at ≡ messagesAt c) (et : text ≡ textAt c)
     (p : start ≡ u16At f (at + messageSize * n)) (q : size ≡ u16At f (at + messageSize * n + 2)) where
   pub span-granted : record { start = text + start; size = size } ≡ labelSpan f n
   unfolding labelSpan granted
-  span-granted = rw (g .reply, p, q, ea, et, g .laid .counts)
+  span-granted = rw (g .reply, p, q, ea, et, g .contents .counts)
 
   pub span-fits : text + start + size ≤ length f
   span-fits =
-      let w : length f ≡ sizeOf c = g .laid .sized .whole in
+      let w : length f ≡ sizeOf c = g .contents .sized .whole in
       let a : start ≡ u16At f (messagesAt c + messageSize * n) = p ∙ rw ea in
       let b : size ≡ u16At f (messagesAt c + messageSize * n + 2) = q ∙ rw ea in
       let h = g .fits in

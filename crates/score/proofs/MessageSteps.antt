@@ -7,21 +7,23 @@ use Prim.Native.Nat.{ℕ, zero, suc, _+_, _-_, _<_, _≤_}
 use native.Mathlib.Omega.{arith}
 use lib.ListN.{length}
 use lib.Dec.{leb, eqb}
-use borrow.Author.Tests.{eq-eqb, ne-eqb, leb-true}
+use borrow.Author.Tests.{eq-eqb, ne-eqb}
 use borrow.Author.Needs.{needs}
 use Rattle.base.specs.Tests.{every, between}
-use Rattle.base.proofs.TestLaws.{every-pass, every-stop, every-last, every-head, every-rest, told-true, told-false, tests}
-use Rattle.score.specs.declared.Verdict.{Verdict}
+use Rattle.base.specs.Checks.{Check, need, firstFault}
+use Rattle.base.proofs.TestLaws.{every-pass, every-stop, every-last, told-true, told-false, tests}
+use Rattle.score.specs.declared.Fault.{Fault}
 use Rattle.score.specs.declared.Verdict.the-variants.{Fine, Refused}
 use Rattle.score.specs.declared.Fault.the-variants.{BadMessage, TextLeft}
-use Rattle.score.specs.declared.Counts.{Counts}
+use Rattle.score.specs.declared.contents.Counts.{Counts}
 use Rattle.score.specs.Limits.{messageSize, longestLabel}
 use Rattle.score.specs.Bytes.{byteAt, u16At, part}
 use Rattle.score.specs.Contents.{textAt}
-use Rattle.score.specs.Replies.{need, first}
+use Rattle.score.specs.Replies.{verdictOf}
 use Rattle.score.specs.Messages.{labelByte, readable, messageRight, messagesRight}
-use Rattle.score.proofs.Verdicts.{first-pass, first-stop, first-last}
-use Rattle.score.proofs.Tables.{part-none, part-more}
+use Rattle.score.proofs.Verdicts.{verdict-stop, check-next}
+use Rattle.score.proofs.Accepted.{entry-right}
+use Rattle.score.proofs.Decoded.{part-none, part-more}
 
 -- ---- the bytes of a label
 
@@ -52,7 +54,7 @@ messages-none f c at zero from p = refl
 messages-none f c at (suc k) from p = absurd (omega arith)
 
 messages-more : (f : List ℕ) (c : Counts) (at count from : ℕ) → 0 < count
-    → messagesRight f c at count from ≡ first (need (messageRight f c at from) (BadMessage at) ∷ messagesRight f c (at + messageSize) (count - 1) (from + u16At f (at + 2)) ∷ [])
+    → messagesRight f c at count from ≡ firstFault (need (messageRight f c at from) (BadMessage at) ∷ messagesRight f c (at + messageSize) (count - 1) (from + u16At f (at + 2)) ∷ [])
 unfolding messagesRight
 messages-more f c at zero from p = absurd (omega arith)
 messages-more f c at (suc k) from p = let s : suc k - 1 ≡ k = omega arith in rw s
@@ -61,32 +63,27 @@ messages-more f c at (suc k) from p = let s : suc k - 1 ≡ k = omega arith in r
 pub messages-here : (f : List ℕ) (c : Counts) (at i count from : ℕ) → i ≡ at → messagesRight f c i count from ≡ messagesRight f c at count from
 messages-here f c at i count from e = rw e
 
-module _ (f : List ℕ) (c : Counts) (at count from : ℕ) (W : Verdict) where
-  pub messages-unused : count ≤ 0 → (from ≡ c .text → ⊥) → messagesRight f c at count from ≡ W → Refused TextLeft ≡ W
-  unfolding need
-  messages-unused p h q =
-      let g : need (eqb from (c .text)) TextLeft ≡ Refused TextLeft = rw (ne-eqb from (c .text) h) in
-      sym g ∙ sym (messages-none f c at count from p) ∙ q
+module _ (f : List ℕ) (c : Counts) (at count from : ℕ) (W : Check Fault) where
+  pub messages-unused : count ≤ 0 → (from ≡ c .text → ⊥) → messagesRight f c at count from ≡ W → Refused TextLeft ≡ verdictOf W
+  unfolding verdictOf need
+  messages-unused p h q = rw (← q, messages-none f c at count from p, ne-eqb from (c .text) h)
 
-  pub messages-used : count ≤ 0 → from ≡ c .text → messagesRight f c at count from ≡ W → Fine ≡ W
-  unfolding need
-  messages-used p h q =
-      let g : need (eqb from (c .text)) TextLeft ≡ Fine = rw (eq-eqb from (c .text) h) in
-      sym g ∙ sym (messages-none f c at count from p) ∙ q
+  pub messages-used : count ≤ 0 → from ≡ c .text → messagesRight f c at count from ≡ W → Fine ≡ verdictOf W
+  unfolding verdictOf need
+  messages-used p h q = rw (← q, messages-none f c at count from p, eq-eqb from (c .text) h)
 
   module _ (t : Bool) (some : 0 < count) (e : t ≡ messageRight f c at from) where
-    pub messages-bad : not t ≡ true → messagesRight f c at count from ≡ W → Refused (BadMessage at) ≡ W
-    messages-bad h q = first-stop _ _ _ (told-false t _ e h) ∙ sym (messages-more f c at count from some) ∙ q
+    pub messages-bad : not t ≡ true → messagesRight f c at count from ≡ W → Refused (BadMessage at) ≡ verdictOf W
+    messages-bad h q = rw (← q, messages-more f c at count from some) (verdict-stop _ _ _ (told-false t _ e h))
 
     pub messages-step : (n : ℕ) → not t ≡ false → n ≡ u16At f (at + 2) → messagesRight f c at count from ≡ W
         → messagesRight f c (at + messageSize) (count - 1) (from + n) ≡ W
     messages-step n h en q =
-        rw en (first-pass _ (BadMessage at) _ _ (told-true t _ e h) (first-last _ _ refl) ∙ sym (messages-more f c at count from some) ∙ q)
+        rw en (sym (messages-more f c at count from some ∙ check-next _ (BadMessage at) _ (told-true t _ e h)) ∙ q)
 
 -- a right message ends within the text
 pub message-fits : (f : List ℕ) (c : Counts) (at from n : ℕ) (t : Bool) → t ≡ messageRight f c at from → not t ≡ false → n ≡ u16At f (at + 2) → from + n ≤ c .text
-unfolding messageRight
-message-fits f c at from n t e h en = rw en (leb-true _ _ (every-head _ _ (every-rest _ _ (every-rest _ _ (told-true t _ e h)))))
+message-fits f c at from n t e h en = rw en (entry-right f c at from (told-true t _ e h) .fits)
 
 pub ruleset messages = (messages-here, messages-unused, messages-used, messages-bad, messages-step, message-fits, needs)
 

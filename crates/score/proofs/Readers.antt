@@ -8,16 +8,16 @@ use lib.ListN.{length, getD}
 use borrow.Author.Needs.{needs}
 use Rattle.page.specs.declared.Item.{Item}
 use Rattle.base.proofs.TestLaws.{between-low, between-high}
-use Rattle.score.specs.declared.Counts.{Counts}
-use Rattle.score.specs.Limits.{eventSize, itemSize, mostEvents, mostItems, mostMessages}
+use Rattle.score.specs.declared.contents.Counts.{Counts}
+use Rattle.score.specs.Limits.{eventSize, itemSize, mostEvents, mostItems}
 use Rattle.score.specs.Bytes.{u32At}
 use Rattle.score.specs.Contents.{countsOf, eventsAt, itemsAt, sizeOf}
 use Rattle.score.specs.Items.{itemAt}
 use Rattle.score.specs.Piece.{decode}
 use Rattle.score.specs.File.{Accepted}
 use Rattle.score.specs.Readers.{EventIn, EventRead, ItemIn, ItemRead, blank}
-use Rattle.score.specs.Asked.{Counted}
-use Rattle.score.proofs.Tables.{durations-at, items-at, events-decoded, items-decoded}
+use Rattle.score.specs.Inner.{Counted}
+use Rattle.score.proofs.Decoded.{durations-at, items-at, events-decoded, items-decoded}
 use Rattle.score.proofs.Accepted.{file-long, file-sized, file-events, file-items}
 use Rattle.score.proofs.Ranges.{duration-ranged, items-ranged}
 
@@ -32,9 +32,6 @@ module _ (f : List ℕ) (c : Counts) (accepted : Accepted f) (e : c ≡ countsOf
 
   pub items-read : (c .items ≡ countsOf f .items) × (c .items ≤ mostItems)
   items-read = (rw e, counted-read .items)
-
-  pub messages-read : (c .messages ≡ countsOf f .messages) × (c .messages ≤ mostMessages)
-  messages-read = (rw e, counted-read .messages)
 
 -- ---- events
 

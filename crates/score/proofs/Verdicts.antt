@@ -1,66 +1,65 @@
--- Laws of the first fault: which test decides, and what no fault says of each test.
+-- The first fault in the code's own form: which test decides the verdict, and what a verdict says of its check.
 -- Assumes nothing.
 use mathlib.Core.Path.{_≡_, refl}
 use mathlib.Core.Bool.{Bool, true, false}
 use mathlib.Core.List.{List, [], _∷_}
 use Prim.Native.Nat.{ℕ}
 use native.Mathlib.Omega.{arith}
-use borrow.Author.Needs.{needs}
+use Rattle.base.specs.Checks.{Check, fine, refused, need, firstFault}
 use Rattle.base.proofs.TestLaws.{tests}
 use Rattle.score.specs.declared.Fault.{Fault}
 use Rattle.score.specs.declared.Verdict.{Verdict}
 use Rattle.score.specs.declared.Verdict.the-variants.{Fine, Refused}
-use Rattle.score.specs.Replies.{need, first}
+use Rattle.score.specs.Replies.{verdictOf}
+
+-- ---- what a verdict says of its check
+
+pub verdict-fine : (w : Check Fault) (v : Verdict) → v ≡ verdictOf w → v ≡ Fine → w ≡ fine
+unfolding verdictOf
+verdict-fine fine v e p = refl
+verdict-fine (refused x) v e p = let z : _≡_ {A = ℕ} 0 1 = cc in absurd (omega arith)
+
+pub verdict-refused : (w : Check Fault) (v : Verdict) (x : Fault) → v ≡ verdictOf w → v ≡ Refused x → w ≡ refused x
+unfolding verdictOf
+verdict-refused fine v x e p = let z : _≡_ {A = ℕ} 0 1 = cc in absurd (omega arith)
+verdict-refused (refused y) v x e p = cc
 
 -- ---- from the tests to the verdict
 
-pub first-end : Fine ≡ first []
-unfolding first
-first-end = refl
+pub verdict-end : Fine ≡ verdictOf (firstFault [])
+unfolding verdictOf firstFault
+verdict-end = refl
 
-pub first-pass : (b : Bool) (x : Fault) (r : Verdict) (vs : List Verdict) → b ≡ true → r ≡ first vs → r ≡ first (need b x ∷ vs)
-unfolding first need
-first-pass b x r vs e q = rw e q
+module _ (b : Bool) (x : Fault) where
+  pub verdict-pass : (r : Verdict) (l : List (Check Fault)) → b ≡ true → r ≡ verdictOf (firstFault l) → r ≡ verdictOf (firstFault (need b x ∷ l))
+  unfolding firstFault need
+  verdict-pass r l e q = rw e q
 
-pub first-stop : (b : Bool) (x : Fault) (vs : List Verdict) → b ≡ false → Refused x ≡ first (need b x ∷ vs)
-unfolding first need
-first-stop b x vs e = rw e
+  pub verdict-stop : (l : List (Check Fault)) → b ≡ false → Refused x ≡ verdictOf (firstFault (need b x ∷ l))
+  unfolding verdictOf firstFault need
+  verdict-stop l e = rw e
 
-pub first-last : (v r : Verdict) → r ≡ v → r ≡ first (v ∷ [])
-unfolding first
-first-last Fine r p = p
-first-last (Refused x) r p = p
+  -- one more of a row of checks, the others after it
+  pub check-next : (w : Check Fault) → b ≡ true → firstFault (need b x ∷ w ∷ []) ≡ w
+  unfolding firstFault need
+  check-next fine e = rw e
+  check-next (refused y) e = rw e
 
--- what a part of the check told, put in its place
-pub told-fine : (v w r : Verdict) (vs : List Verdict) → v ≡ w → v ≡ Fine → r ≡ first vs → r ≡ first (w ∷ vs)
-unfolding first
-told-fine v w r vs e p q = rw (← e, p) q
+-- ---- what the parts of a check told
 
-pub told-fault : (v w : Verdict) (x : Fault) (vs : List Verdict) → v ≡ w → v ≡ Refused x → v ≡ first (w ∷ vs)
-unfolding first
-told-fault v w x vs e q = rw (← e, q)
+pub told-last : (w : Check Fault) (r : Verdict) → r ≡ verdictOf w → r ≡ verdictOf (firstFault (w ∷ []))
+unfolding firstFault
+told-last fine r p = p
+told-last (refused x) r p = p
 
--- the tests of a chain of early returns, and the answers of calls
-pub ruleset faults = (first-end, first-pass, first-stop, first-last, tests)
+module _ (v : Verdict) (w : Check Fault) (l : List (Check Fault)) (told : v ≡ verdictOf w) where
+  pub told-fine : (r : Verdict) → v ≡ Fine → r ≡ verdictOf (firstFault l) → r ≡ verdictOf (firstFault (w ∷ l))
+  unfolding firstFault
+  told-fine r p q = rw (verdict-fine w v told p) q
 
-pub ruleset answers = (first-last, told-fine, told-fault, needs)
+  pub told-fault : (x : Fault) → v ≡ Refused x → v ≡ verdictOf (firstFault (w ∷ l))
+  unfolding verdictOf firstFault
+  told-fault x p = rw (verdict-refused w v x told p) p
 
--- ---- from no fault to the tests
-
-pub need-fine : (b : Bool) (x : Fault) → need b x ≡ Fine → b ≡ true
-unfolding need
-need-fine true x e = refl
-need-fine false x e = let z : _≡_ {A = ℕ} 0 1 = cc in absurd (omega arith)
-
-pub first-head : (v : Verdict) (vs : List Verdict) → first (v ∷ vs) ≡ Fine → v ≡ Fine
-unfolding first
-first-head Fine vs e = refl
-first-head (Refused x) vs e = e
-
-pub first-rest : (v : Verdict) (vs : List Verdict) → first (v ∷ vs) ≡ Fine → first vs ≡ Fine
-unfolding first
-first-rest Fine vs e = e
-first-rest (Refused x) vs e = let z : _≡_ {A = ℕ} 0 1 = cc in absurd (omega arith)
-
-pub holds : (b : Bool) (x : Fault) (vs : List Verdict) → first (need b x ∷ vs) ≡ Fine → b ≡ true
-holds b x vs e = need-fine b x (first-head _ vs e)
+-- the tests of a chain of early returns
+pub ruleset faults = (verdict-end, verdict-pass, verdict-stop, tests)

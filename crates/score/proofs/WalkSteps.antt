@@ -10,16 +10,19 @@ use borrow.Author.Needs.{needs}
 use Rattle.page.specs.declared.Item.{Item}
 use Rattle.base.specs.Tests.{pick}
 use Rattle.base.proofs.TestLaws.{told-true, told-false}
-use Rattle.score.specs.declared.Walk.{Walk}
-use Rattle.score.specs.declared.Walk.the-variants.{Actions, Stop}
-use Rattle.score.specs.declared.Counts.{Counts}
-use Rattle.score.specs.declared.Holder.{Holder}
-use Rattle.score.specs.declared.Step.{Step}
+use Rattle.score.specs.declared.Fault.{Fault}
+use Rattle.score.specs.declared.Fault.the-variants.{BadItem}
+use Rattle.score.specs.declared.walk.Walk.{Walk}
+use Rattle.score.specs.declared.walk.Walk.the-variants.{Actions, Stop}
+use Rattle.score.specs.declared.contents.Counts.{Counts}
+use Rattle.score.specs.declared.items.Setting.{Setting}
+use Rattle.score.specs.declared.walk.Step.{Step}
 use Rattle.score.specs.Limits.{itemSize, mostActions}
 use Rattle.score.specs.Items.{itemAt, itemsFrom, itemRight, withinOf, ownOf, next, inside, onward, walked}
-use Rattle.score.specs.Asked.{stepOf, refusal, judged, Bounded, Room}
-use Rattle.score.proofs.Tables.{items-length, items-none, items-more, items-take, items-drop}
-use Rattle.score.proofs.WalkLaws.{within-action, within-group, own-action, own-group, within-left, own-room, walked-end, walked-right, walked-wrong, walked-small}
+use Rattle.score.specs.Inner.{stepOf, refusal, judged, StepFits, Room}
+use Rattle.score.proofs.Decoded.{items-length, items-none, items-more, items-take, items-drop}
+use Rattle.score.proofs.Walked.{right-item, within-left, own-room}
+use Rattle.score.proofs.WalkLaws.{within-action, within-group, own-action, own-group, walked-end, walked-right, walked-wrong, walked-small}
 
 -- ---- the step after a right item
 
@@ -34,7 +37,7 @@ module _ (i : Item) (left n : ℕ) (room : Room i left n) (s : Step) where
         let m : n + ownOf i ≡ n + 1 = omega arith in
         cc
 
-    pub action-bounded : Bounded left s
+    pub action-bounded : StepFits left s
     action-bounded =
         let o = own-action i action in
         let b : n + ownOf i ≤ mostActions = room .own in
@@ -49,7 +52,7 @@ module _ (i : Item) (left n : ℕ) (room : Room i left n) (s : Step) where
         let m : n + ownOf i ≡ n = omega arith in
         cc
 
-    pub group-bounded : Bounded left s
+    pub group-bounded : StepFits left s
     group-bounded =
         let a = within-group i group in
         let o = own-group i group in
@@ -62,9 +65,9 @@ group-last i left n room group = let a = within-group i group in let b : withinO
 
 -- ---- an item judged
 
-module _ (i : Item) (c : Counts) (h : Holder) (left n : ℕ) (t : Bool) (told : t ≡ itemRight i c h left n) where
+module _ (i : Item) (c : Counts) (h : Setting) (left n : ℕ) (t : Bool) (told : t ≡ itemRight i c h left n) where
   pub right-room : n ≤ mostActions → not t ≡ false → Room i left n
-  right-room m p = record { body = within-left i c h left n (told-true t _ told p); own = own-room i c h left n (told-true t _ told p) m }
+  right-room m p = let r = right-item i c h left n (told-true t _ told p) in record { body = within-left r; own = own-room r m }
 
   module _ (j : Item) (s : Step) (same : i ≡ j) where
     pub judged-right : not t ≡ false → s ≡ stepOf i left n → s ≡ judged j c h left n
@@ -77,28 +80,28 @@ module _ (i : Item) (c : Counts) (h : Holder) (left n : ℕ) (t : Bool) (told : 
 
 pub ruleset judges = (right-room, judged-right, judged-wrong, action-step, action-bounded, group-step, group-bounded, group-last, needs)
 
-judged-verdict : (i : Item) (c : Counts) (h : Holder) (left n : ℕ) (b : Bool) → itemRight i c h left n ≡ b → (judged i c h left n) .right ≡ b
-unfolding judged pick stepOf refusal
+judged-verdict : (i : Item) (c : Counts) (h : Setting) (left n : ℕ) (b : Bool) → itemRight i c h left n ≡ b → (judged i c h left n) .right ≡ b
+unfolding judged pick stepOf
 judged-verdict i c h left n true e = rw e
 judged-verdict i c h left n false e = rw e
 
-verdict : (s : Step) (i : Item) (c : Counts) (h : Holder) (left n : ℕ) → s ≡ judged i c h left n → s .right ≡ itemRight i c h left n
+verdict : (s : Step) (i : Item) (c : Counts) (h : Setting) (left n : ℕ) → s ≡ judged i c h left n → s .right ≡ itemRight i c h left n
 verdict s i c h left n e = rw e (judged-verdict i c h left n _ refl)
 
-judged-step : (s : Step) (i : Item) (c : Counts) (h : Holder) (left n : ℕ) → s ≡ judged i c h left n → itemRight i c h left n ≡ true → s ≡ stepOf i left n
+judged-step : (s : Step) (i : Item) (c : Counts) (h : Setting) (left n : ℕ) → s ≡ judged i c h left n → itemRight i c h left n ≡ true → s ≡ stepOf i left n
 unfolding judged pick
 judged-step s i c h left n e p = e ∙ rw p
 
 -- ---- the walk through the bytes
 
 -- what the count items from at on are found to be
-abbrev found : List ℕ → Counts → ℕ → ℕ → Holder → ℕ → Walk
+abbrev found : List ℕ → Counts → ℕ → ℕ → Setting → ℕ → Walk
 found f c at count h n = walked c at (itemsFrom f at count) h n
 
-pub walk-none : (f : List ℕ) (c : Counts) (at count : ℕ) (h : Holder) (n : ℕ) (W : Walk) → count ≤ 0 → found f c at count h n ≡ W → Actions n ≡ W
+pub walk-none : (f : List ℕ) (c : Counts) (at count : ℕ) (h : Setting) (n : ℕ) (W : Walk) → count ≤ 0 → found f c at count h n ≡ W → Actions n ≡ W
 walk-none f c at count h n W p q = sym (rw (items-none f at count p) (walked-end c at h n)) ∙ q
 
-module _ (f : List ℕ) (c : Counts) (at count : ℕ) (h : Holder) (n : ℕ) (some : 0 < count) where
+module _ (f : List ℕ) (c : Counts) (at count : ℕ) (h : Setting) (n : ℕ) (some : 0 < count) where
   abbrev here : Item
   here = itemAt f at
 
@@ -110,20 +113,20 @@ module _ (f : List ℕ) (c : Counts) (at count : ℕ) (h : Holder) (n : ℕ) (so
       ≡ onward (found f c (at + itemSize) (withinOf here) (inside here h) (n + ownOf here))
       (λ m. found f c (at + itemSize + itemSize * withinOf here) (count - 1 - withinOf here) (next here h) m)
   found-right e =
-      let l = within-left here c h (count - 1) n e in
+      let l = within-left (right-item here c h (count - 1) n e) in
       let step = walked-right c at here (itemsFrom f (at + itemSize) (count - 1)) h n (rw rest-length e) in
       rw (items-more f at count some)
       (step ∙ rw (items-take f (at + itemSize) (count - 1) (withinOf here) l, items-drop f (at + itemSize) (count - 1) (withinOf here) l))
 
-  found-wrong : itemRight here c h (count - 1) n ≡ false → found f c at count h n ≡ Stop at
+  found-wrong : itemRight here c h (count - 1) n ≡ false → found f c at count h n ≡ Stop (BadItem at)
   found-wrong e = rw (items-more f at count some) (walked-wrong c at here (itemsFrom f (at + itemSize) (count - 1)) h n (rw rest-length e))
 
 module _ (f : List ℕ) (c : Counts) (at count depth event part n : ℕ) (W : Walk) (s : Step) (some : 0 < count)
     (es : s ≡ judged (itemAt f at) c (record { depth = depth; event = event; part = part }) (count - 1) n) where
-  abbrev around : Holder
+  abbrev around : Setting
   around = record { depth = depth; event = event; part = part }
 
-  pub walk-stop : not (s .right) ≡ true → found f c at count around n ≡ W → Stop at ≡ W
+  pub walk-stop : not (s .right) ≡ true → found f c at count around n ≡ W → Stop (BadItem at) ≡ W
   walk-stop p q = sym (found-wrong f c at count around n some (told-false (s .right) _ (verdict s _ c around (count - 1) n es) p)) ∙ q
 
   module _ (w : Walk) (p : not (s .right) ≡ false) (ew : w ≡ found f c (at + itemSize) (s .body) (record { depth = depth + 1; event = 0; part = s .part }) (s .actions)) where
@@ -134,9 +137,9 @@ module _ (f : List ℕ) (c : Counts) (at count depth event part n : ℕ) (W : Wa
         rw (ew, judged-step s _ c around (count - 1) n es r)
         (found-right f c at count around n some r)
 
-    pub walk-body-stop : (q : ℕ) → w ≡ Stop q → found f c at count around n ≡ W → w ≡ W
+    pub walk-body-stop : (x : Fault) → w ≡ Stop x → found f c at count around n ≡ W → w ≡ W
     unfolding onward
-    walk-body-stop q e r = e ∙ sym (rw e at through) ∙ r
+    walk-body-stop x e r = e ∙ sym (rw e at through) ∙ r
 
     pub walk-step : (m : ℕ) → w ≡ Actions m → found f c at count around n ≡ W
         → found f c (at + (itemSize + itemSize * s .body)) (s .after) (record { depth = depth; event = s .event; part = s .part }) m ≡ W

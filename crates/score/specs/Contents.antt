@@ -3,13 +3,13 @@ use Prim.Native.Nat.{ℕ, _+_, _*_}
 use mathlib.Core.List.{List, [], _∷_}
 use lib.Dec.{leb, eqb}
 use Rattle.base.specs.Tests.{between}
-use Rattle.score.specs.declared.Verdict.{Verdict}
+use Rattle.base.specs.Checks.{Check, need, firstFault}
+use Rattle.score.specs.declared.Fault.{Fault}
 use Rattle.score.specs.declared.Fault.the-variants.{BadCount, BadOffset, BadLength}
-use Rattle.score.specs.declared.Counts.{Counts}
-use Rattle.score.specs.declared.Offsets.{Offsets}
+use Rattle.score.specs.declared.contents.Counts.{Counts}
+use Rattle.score.specs.declared.contents.Offsets.{Offsets}
 use Rattle.score.specs.Limits.{contentsSize, eventSize, itemSize, messageSize, mostEvents, mostItems, mostMessages, mostText}
 use Rattle.score.specs.Bytes.{u32At}
-use Rattle.score.specs.Replies.{need, first}
 
 unfoldable pub offsetsOf : List ℕ → Offsets
 offsetsOf f = record { events = u32At f 0; items = u32At f 8; messages = u32At f 16; text = u32At f 24 }
@@ -34,9 +34,9 @@ abbrev pub sizeOf : Counts → ℕ
 sizeOf c = textAt c + c .text
 
 -- 4: "a count outside its limits", at "byte of the first such count"
-unfoldable pub countsRight : Counts → Verdict
+unfoldable pub countsRight : Counts → Check Fault
 countsRight c =
-    first (
+    firstFault (
     need (between 1 mostEvents (c .events)) (BadCount 4)
     ∷ need (leb (c .items) mostItems) (BadCount 12)
     ∷ need (leb (c .messages) mostMessages) (BadCount 20)
@@ -45,9 +45,9 @@ countsRight c =
     )
 
 -- 5: "an offset not as above", at "byte of the first such offset"; "offsets right, file length wrong", at 0
-unfoldable pub offsetsRight : Offsets → Counts → ℕ → Verdict
+unfoldable pub offsetsRight : Offsets → Counts → ℕ → Check Fault
 offsetsRight o c size =
-    first (
+    firstFault (
     need (eqb (o .events) eventsAt) (BadOffset 0)
     ∷ need (eqb (o .items) (itemsAt c)) (BadOffset 8)
     ∷ need (eqb (o .messages) (messagesAt c)) (BadOffset 16)

@@ -6,9 +6,9 @@ use mathlib.Core.List.{List, [], _∷_, _++_}
 use lib.ListN.{length}
 use Rattle.page.specs.declared.Item.{Item}
 use Rattle.base.specs.Tests.{every, between}
-use Rattle.score.specs.declared.Verdict.the-variants.{Fine}
-use Rattle.score.specs.declared.Counts.{Counts}
-use Rattle.score.specs.Limits.{contentsSize, longestLabel}
+use Rattle.base.specs.Checks.{fine}
+use Rattle.score.specs.declared.contents.Counts.{Counts}
+use Rattle.score.specs.Limits.{longestLabel}
 use Rattle.score.specs.Contents.{countsRight, eventsAt, itemsAt, messagesAt, textAt}
 use Rattle.score.specs.Events.{eventsRight}
 use Rattle.score.specs.Items.{itemsRight}
@@ -56,7 +56,7 @@ labelsRight (l ∷ ls) = every (between 1 longestLabel (length l) ∷ readable l
 
 -- A piece within document 01's limits and rules, nesting and order included.
 pub record Lawful (p : Piece) : Type 0 where
-  pub counts : countsRight (countsIn p) ≡ Fine
-  pub durations : eventsRight eventsAt (p .durations) ≡ Fine
-  pub items : itemsRight (countsIn p) (p .items) ≡ Fine
+  pub counts : countsRight (countsIn p) ≡ fine
+  pub durations : eventsRight eventsAt (p .durations) ≡ fine
+  pub items : itemsRight (countsIn p) (p .items) ≡ fine
   pub labels : labelsRight (p .labels) ≡ true

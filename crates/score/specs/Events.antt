@@ -2,12 +2,11 @@
 use Prim.Native.Nat.{ℕ, zero, suc, _+_}
 use mathlib.Core.List.{List, [], _∷_}
 use Rattle.base.specs.Tests.{between}
-use Rattle.score.specs.declared.Verdict.{Verdict}
-use Rattle.score.specs.declared.Verdict.the-variants.{Fine}
+use Rattle.base.specs.Checks.{Check, fine, need, firstFault}
+use Rattle.score.specs.declared.Fault.{Fault}
 use Rattle.score.specs.declared.Fault.the-variants.{BadEvent}
 use Rattle.score.specs.Limits.{eventSize, longest}
 use Rattle.score.specs.Bytes.{u32At}
-use Rattle.score.specs.Replies.{need, first}
 
 -- The durations of the count events from the byte at on.
 unfoldable pub durationsAt : List ℕ → ℕ → ℕ → List ℕ
@@ -15,6 +14,6 @@ durationsAt f at zero = []
 durationsAt f at (suc count) = u32At f at ∷ durationsAt f (at + eventSize) count
 
 -- 6: "an event's duration", at "its first byte". The first of them stands at the byte at.
-unfoldable pub eventsRight : ℕ → List ℕ → Verdict
-eventsRight at [] = Fine
-eventsRight at (d ∷ ds) = first (need (between 1 longest d) (BadEvent at) ∷ eventsRight (at + eventSize) ds ∷ [])
+unfoldable pub eventsRight : ℕ → List ℕ → Check Fault
+eventsRight at [] = fine
+eventsRight at (d ∷ ds) = firstFault (need (between 1 longest d) (BadEvent at) ∷ eventsRight (at + eventSize) ds ∷ [])

@@ -4,21 +4,20 @@ use mathlib.Core.Path.{_≡_}
 use mathlib.Core.List.{List, [], _∷_}
 use lib.ListN.{length}
 use lib.Dec.{leb}
-use Rattle.score.specs.declared.Verdict.{Verdict}
-use Rattle.score.specs.declared.Verdict.the-variants.{Fine}
+use Rattle.base.specs.Checks.{Check, fine, need, firstFault}
+use Rattle.score.specs.declared.Fault.{Fault}
 use Rattle.score.specs.declared.Fault.the-variants.{FileShort}
-use Rattle.score.specs.declared.Counts.{Counts}
+use Rattle.score.specs.declared.contents.Counts.{Counts}
 use Rattle.score.specs.Limits.{contentsSize}
-use Rattle.score.specs.Replies.{need, first}
 use Rattle.score.specs.Contents.{offsetsOf, countsOf, countsRight, offsetsRight, eventsAt, messagesAt}
 use Rattle.score.specs.Events.{eventsRight}
 use Rattle.score.specs.Items.{itemsRight}
 use Rattle.score.specs.Messages.{messagesRight}
 use Rattle.score.specs.Piece.{decode}
 
-unfoldable pub bodiesRight : List ℕ → Counts → Verdict
+unfoldable pub bodiesRight : List ℕ → Counts → Check Fault
 bodiesRight f c =
-    first (
+    firstFault (
     eventsRight eventsAt (decode f .durations)
     ∷ itemsRight c (decode f .items)
     ∷ messagesRight f c (messagesAt c) (c .messages) 0
@@ -26,10 +25,10 @@ bodiesRight f c =
     )
 
 -- 3: "file under 32 bytes"
-unfoldable pub checked : List ℕ → Verdict
+unfoldable pub checked : List ℕ → Check Fault
 checked f =
     let c = countsOf f in
-    first (
+    firstFault (
     need (leb contentsSize (length f)) FileShort
     ∷ countsRight c
     ∷ offsetsRight (offsetsOf f) c (length f)
@@ -39,4 +38,4 @@ checked f =
 
 -- A file that the check lets in.
 pub record Accepted (f : List ℕ) : Type 0 where
-  pub fine : checked f ≡ Fine
+  pub fine : checked f ≡ fine

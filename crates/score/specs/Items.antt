@@ -6,13 +6,13 @@ use lib.ListN.{length, take, drop}
 use lib.Dec.{leb, ltb, eqb}
 use Rattle.page.specs.declared.Item.{Item}
 use Rattle.base.specs.Tests.{pick, every, between}
-use Rattle.score.specs.declared.Verdict.{Verdict}
-use Rattle.score.specs.declared.Verdict.the-variants.{Fine, Refused}
+use Rattle.base.specs.Checks.{Check, fine, refused}
+use Rattle.score.specs.declared.Fault.{Fault}
 use Rattle.score.specs.declared.Fault.the-variants.{BadItem}
-use Rattle.score.specs.declared.Walk.{Walk}
-use Rattle.score.specs.declared.Walk.the-variants.{Actions, Stop}
-use Rattle.score.specs.declared.Counts.{Counts}
-use Rattle.score.specs.declared.Holder.{Holder}
+use Rattle.score.specs.declared.walk.Walk.{Walk}
+use Rattle.score.specs.declared.walk.Walk.the-variants.{Actions, Stop}
+use Rattle.score.specs.declared.contents.Counts.{Counts}
+use Rattle.score.specs.declared.items.Setting.{Setting}
 use Rattle.score.specs.Limits.{itemSize, longest, mostActions, lastPart, deepest}
 use Rattle.score.specs.Bytes.{byteAt, u16At, u32At}
 use Rattle.score.specs.Contents.{itemsAt}
@@ -39,12 +39,12 @@ abbrev pub isAction : Item → Bool
 isAction i = eqb (i .kind) 0
 
 -- "Top items have depth 1"
-abbrev pub isTop : Holder → Bool
+abbrev pub isTop : Setting → Bool
 isTop h = eqb (h .depth) 1
 
--- ---- the rules of one item. A holder says what is asked of it: at depth 1 the event and part of the top item before, deeper the group's part.
+-- ---- the rules of one item. A setting says what is asked of it: at depth 1 the event and part of the top item before, deeper the group's part.
 
-unfoldable pub kindRight : Item → Bool
+abbrev pub kindRight : Item → Bool
 kindRight i = leb (i .kind) 1
 
 -- "synchrony (0 loose, 1 tight), error word (0 local, 1 global, 2 partial, 3 causal)"; "For an action both words are 0"
@@ -55,23 +55,23 @@ wordsRight i =
     (every (leb (i .synchrony) 1 ∷ leb (i .error) 3 ∷ []))
 
 -- "part (0 to 15)"; "An item within a group has event 0 and its group's part."
-unfoldable pub partRight : Item → Holder → Bool
+unfoldable pub partRight : Item → Setting → Bool
 partRight i h = every (leb (i .part) lastPart ∷ pick (isTop h) true (eqb (i .part) (h .part)) ∷ [])
 
 -- "delay (u32, 0 to 5,040,000)"
-unfoldable pub delayRight : Item → Bool
+abbrev pub delayRight : Item → Bool
 delayRight i = leb (i .delay .0) longest
 
 -- "Top items stand by event and, within an event, by part."
-unfoldable pub inOrder : Holder → Item → Bool
+unfoldable pub inOrder : Setting → Item → Bool
 inOrder h i = pick (eqb (i .event) (h .event)) (leb (h .part) (i .part)) (ltb (h .event) (i .event))
 
 -- "A top item names its event."
-unfoldable pub eventRight : Item → Counts → Holder → Bool
+unfoldable pub eventRight : Item → Counts → Setting → Bool
 eventRight i c h = pick (isTop h) (every (between 1 (c .events) (i .event) ∷ inOrder h i ∷ [])) (eqb (i .event) 0)
 
 -- "depth 8 is accepted, 9 refused. A group ends within the group that holds it, a top group within the table": left items follow it there.
-unfoldable pub nestingRight : Item → Holder → ℕ → Bool
+unfoldable pub nestingRight : Item → Setting → ℕ → Bool
 nestingRight i h left = every (leb (h .depth) deepest ∷ pick (isAction i) true (leb (i .last) left) ∷ [])
 
 -- "last is its message number, counted from 0 and below the message count"
@@ -83,13 +83,13 @@ unfoldable pub actionsRight : Item → ℕ → Bool
 actionsRight i actions = pick (isAction i) (ltb actions mostActions) true
 
 -- What an item says by itself and by its group, and how it stands in the table.
-unfoldable pub fieldsRight : Item → Holder → Bool
+unfoldable pub fieldsRight : Item → Setting → Bool
 fieldsRight i h = every (kindRight i ∷ wordsRight i ∷ partRight i h ∷ delayRight i ∷ [])
 
-unfoldable pub standingRight : Item → Counts → Holder → ℕ → ℕ → Bool
+unfoldable pub standingRight : Item → Counts → Setting → ℕ → ℕ → Bool
 standingRight i c h left actions = every (eventRight i c h ∷ nestingRight i h left ∷ numberRight i c ∷ actionsRight i actions ∷ [])
 
-unfoldable pub itemRight : Item → Counts → Holder → ℕ → ℕ → Bool
+unfoldable pub itemRight : Item → Counts → Setting → ℕ → ℕ → Bool
 itemRight i c h left actions = every (fieldsRight i h ∷ standingRight i c h left actions ∷ [])
 
 -- ---- the whole table, in the order of the page
@@ -103,39 +103,39 @@ unfoldable pub ownOf : Item → ℕ
 ownOf i = pick (isAction i) 1 0
 
 -- What is asked of the item after i, and of the items within it.
-unfoldable pub next : Item → Holder → Holder
+unfoldable pub next : Item → Setting → Setting
 next i h = record { depth = h .depth; event = i .event; part = i .part }
 
-unfoldable pub inside : Item → Holder → Holder
+unfoldable pub inside : Item → Setting → Setting
 inside i h = record { depth = h .depth + 1; event = 0; part = i .part }
 
 -- The one walk, then the other, from as many actions as the first found.
 unfoldable pub onward : Walk → (ℕ → Walk) → Walk
 onward (Actions n) more = more n
-onward (Stop at) more = Stop at
+onward (Stop x) more = Stop x
 
--- Each item, then those within it, then those after it: how many actions there are, or the first byte of the first item against the rules. The first of them
--- stands at the byte at; the first number only bounds the recursion, and is at least their count.
-unfoldable pub walkOf : ℕ → Counts → ℕ → List Item → Holder → ℕ → Walk
+-- Each item, then those within it, then those after it: how many actions there are, or the fault of the first wrong one. 7: "an item against the rules; also the
+-- 1,025th action", at "its first byte". The first of them stands at the byte at; the first number only bounds the recursion, and is at least their count.
+unfoldable pub walkOf : ℕ → Counts → ℕ → List Item → Setting → ℕ → Walk
 walkOf zero c at is h actions = Actions actions
 walkOf (suc n) c at [] h actions = Actions actions
 walkOf (suc n) c at (i ∷ is) h actions =
     pick (itemRight i c h (length is) actions)
     (onward (walkOf n c (at + itemSize) (take (withinOf i) is) (inside i h) (actions + ownOf i))
     (λ m. walkOf n c (at + itemSize + itemSize * withinOf i) (drop (withinOf i) is) (next i h) m))
-    (Stop at)
+    (Stop (BadItem at))
 
-unfoldable pub walked : Counts → ℕ → List Item → Holder → ℕ → Walk
+unfoldable pub walked : Counts → ℕ → List Item → Setting → ℕ → Walk
 walked c at is h actions = walkOf (length is) c at is h actions
 
 -- Before the first top item.
-abbrev pub top : Holder
-top = record { depth = 1; event = 0; part = 0 }
+abbrev pub outset : Setting
+outset = record { depth = 1; event = 0; part = 0 }
 
--- 7: "an item against the rules; also the 1,025th action", at "its first byte"
-unfoldable pub walkVerdict : Walk → Verdict
-walkVerdict (Actions n) = Fine
-walkVerdict (Stop at) = Refused (BadItem at)
+-- The fault that a walk stopped with, if it did.
+unfoldable pub walkFault : Walk → Check Fault
+walkFault (Actions n) = fine
+walkFault (Stop x) = refused x
 
-unfoldable pub itemsRight : Counts → List Item → Verdict
-itemsRight c is = walkVerdict (walked c (itemsAt c) is top 0)
+unfoldable pub itemsRight : Counts → List Item → Check Fault
+itemsRight c is = walkFault (walked c (itemsAt c) is outset 0)

@@ -11,4 +11,4 @@ pub mod File
 pub mod LookUp
 pub mod Encode
 pub mod Readers
-pub mod Asked
+pub mod Inner

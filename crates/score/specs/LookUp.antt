@@ -5,24 +5,23 @@ use mathlib.Core.List.{List, [], _∷_}
 use lib.ListN.{take, drop}
 use lib.Dec.{ltb}
 use denote.Ref.{RefT}
-use Rattle.score.specs.declared.Verdict.{Verdict}
-use Rattle.score.specs.declared.Verdict.the-variants.{Fine, Refused}
+use Rattle.base.specs.Checks.{Check, fine, refused, need, firstFault}
+use Rattle.score.specs.declared.Fault.{Fault}
 use Rattle.score.specs.declared.Fault.the-variants.{NoMessage}
-use Rattle.score.specs.declared.Span.{Span}
+use Rattle.score.specs.declared.look_up.Span.{Span}
 use Rattle.score.specs.Limits.{messageSize}
 use Rattle.score.specs.Bytes.{u16At}
-use Rattle.score.specs.Replies.{need, first}
 use Rattle.score.specs.Contents.{countsOf, messagesAt, textAt}
 use Rattle.score.specs.File.{checked}
 
 -- "Text look-up: the file check, 15." 15: "no such message"
-unfoldable pub labelReply : List ℕ → ℕ → Verdict
-labelReply f n = first (checked f ∷ need (ltb n (countsOf f .messages)) NoMessage ∷ [])
+unfoldable pub labelReply : List ℕ → ℕ → Check Fault
+labelReply f n = firstFault (checked f ∷ need (ltb n (countsOf f .messages)) NoMessage ∷ [])
 
 -- "a refused one hands back an empty part at the file's start, a granted one the label's own bytes in the caller's file"
-unfoldable pub granted : Verdict → Span → Span
-granted Fine s = s
-granted (Refused x) s = record { start = 0; size = 0 }
+unfoldable pub granted : Check Fault → Span → Span
+granted fine s = s
+granted (refused x) s = record { start = 0; size = 0 }
 
 unfoldable pub labelSpan : List ℕ → ℕ → Span
 labelSpan f n =

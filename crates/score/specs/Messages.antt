@@ -4,13 +4,13 @@ use mathlib.Core.Bool.{Bool, true, not}
 use mathlib.Core.List.{List, [], _∷_}
 use lib.Dec.{leb, eqb}
 use Rattle.base.specs.Tests.{every, between}
-use Rattle.score.specs.declared.Verdict.{Verdict}
+use Rattle.base.specs.Checks.{Check, need, firstFault}
+use Rattle.score.specs.declared.Fault.{Fault}
 use Rattle.score.specs.declared.Fault.the-variants.{BadMessage, TextLeft}
-use Rattle.score.specs.declared.Counts.{Counts}
+use Rattle.score.specs.declared.contents.Counts.{Counts}
 use Rattle.score.specs.Limits.{messageSize, longestLabel}
 use Rattle.score.specs.Bytes.{u16At, part}
 use Rattle.score.specs.Contents.{textAt}
-use Rattle.score.specs.Replies.{need, first}
 
 -- "Label bytes are 32 to 255 but not 127"
 unfoldable pub labelByte : ℕ → Bool
@@ -40,7 +40,7 @@ messageRight f c at from =
     )
 
 -- 8: "a message entry or its label bytes", at "the entry's first byte"; "entries right, text not used up", at 24, where the last does not end "at the text's end".
-unfoldable pub messagesRight : List ℕ → Counts → ℕ → ℕ → ℕ → Verdict
+unfoldable pub messagesRight : List ℕ → Counts → ℕ → ℕ → ℕ → Check Fault
 messagesRight f c at zero from = need (eqb from (c .text)) TextLeft
 messagesRight f c at (suc count) from =
-    first (need (messageRight f c at from) (BadMessage at) ∷ messagesRight f c (at + messageSize) count (from + u16At f (at + 2)) ∷ [])
+    firstFault (need (messageRight f c at from) (BadMessage at) ∷ messagesRight f c (at + messageSize) count (from + u16At f (at + 2)) ∷ [])

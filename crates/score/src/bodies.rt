@@ -1,16 +1,17 @@
 // The bodies of a file whose contents are right: "6, 7 and 8 over the file from front to back".
 ghost use mathlib.Core.Path.{_≡_};
+ghost use Rattle.score.specs.Replies.{verdictOf};
 ghost use Rattle.score.specs.File.{bodiesRight};
-ghost use Rattle.score.specs.Asked.{LaidOut};
-use crate::Counts;
+ghost use Rattle.score.specs.Inner.{RightContents};
 use crate::Verdict;
+use crate::contents::Counts;
 use crate::events::check_events;
 use crate::messages::check_messages;
-use crate::table::check_items;
+use crate::walk::check_items;
 
 pub fn check_bodies(file: &[u8], c: Counts) -> Verdict
-    requires { ⌜ LaidOut (now file) c ⌝ }
-    ensures { λ r. ⌜ r ≡ bodiesRight (now (file .entry)) c ⌝ }
+    requires { ⌜ RightContents (now file) c ⌝ }
+    ensures { λ r. ⌜ r ≡ verdictOf (bodiesRight (now (file .entry)) c) ⌝ }
 {
     let timed = check_events(file, c);
     let Verdict::Fine = timed else {

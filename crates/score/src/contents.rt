@@ -3,11 +3,10 @@ ghost use mathlib.Core.Path.{_≡_};
 ghost use Prim.Native.Nat.{_≤_};
 ghost use lib.ListN.{length};
 ghost use Rattle.score.specs.Limits.{contentsSize};
+ghost use Rattle.score.specs.Replies.{verdictOf};
 ghost use Rattle.score.specs.Contents.{offsetsOf, countsOf, itemsAt, messagesAt, textAt, sizeOf, countsRight, offsetsRight};
-ghost use Rattle.score.specs.Asked.{Counted};
-use crate::Counts;
+ghost use Rattle.score.specs.Inner.{Counted};
 use crate::Fault;
-use crate::Offsets;
 use crate::Verdict;
 use crate::bytes::read32;
 use crate::limits::CONTENTS_SIZE;
@@ -18,6 +17,21 @@ use crate::limits::MOST_EVENTS;
 use crate::limits::MOST_ITEMS;
 use crate::limits::MOST_MESSAGES;
 use crate::limits::MOST_TEXT;
+
+// The table of contents: where each body starts, and how many it has.
+pub struct Offsets {
+    pub events: usize,
+    pub items: usize,
+    pub messages: usize,
+    pub text: usize,
+}
+
+pub struct Counts {
+    pub events: usize,
+    pub items: usize,
+    pub messages: usize,
+    pub text: usize,
+}
 
 pub fn read_offsets(file: &[u8]) -> Offsets
     requires { ⌜ contentsSize ≤ length (now file) ⌝ }
@@ -73,7 +87,7 @@ pub fn size_of(c: Counts) -> usize
 }
 
 pub fn check_counts(c: Counts) -> Verdict
-    ensures { λ r. ⌜ r ≡ countsRight c ⌝ }
+    ensures { λ r. ⌜ r ≡ verdictOf (countsRight c) ⌝ }
 {
     if c.events < 1 {
         return Verdict::Refused(Fault::BadCount(4));
@@ -95,7 +109,7 @@ pub fn check_counts(c: Counts) -> Verdict
 
 pub fn check_offsets(o: Offsets, c: Counts, size: usize) -> Verdict
     requires { ⌜ Counted c ⌝ }
-    ensures { λ r. ⌜ r ≡ offsetsRight o c size ⌝ }
+    ensures { λ r. ⌜ r ≡ verdictOf (offsetsRight o c size) ⌝ }
 {
     if o.events != CONTENTS_SIZE {
         return Verdict::Refused(Fault::BadOffset(0));
@@ -117,7 +131,7 @@ pub fn check_offsets(o: Offsets, c: Counts, size: usize) -> Verdict
 
 pub fn check_layout(file: &[u8], c: Counts) -> Verdict
     requires { ⌜ (contentsSize ≤ length (now file)) × Counted c ⌝ }
-    ensures { λ r. ⌜ r ≡ offsetsRight (offsetsOf (now (file .entry))) c (length (now (file .entry))) ⌝ }
+    ensures { λ r. ⌜ r ≡ verdictOf (offsetsRight (offsetsOf (now (file .entry))) c (length (now (file .entry)))) ⌝ }
 {
     let size = file.len();
     check_offsets(read_offsets(file), c, size)

@@ -1,20 +1,21 @@
 // "Event: 4 bytes, its duration in grains, 1 to 5,040,000."
 ghost use mathlib.Core.Path.{_≡_};
 ghost use lib.ListN.{length};
+ghost use Rattle.score.specs.Replies.{verdictOf};
 ghost use Rattle.score.specs.Contents.{eventsAt};
 ghost use Rattle.score.specs.Events.{durationsAt, eventsRight};
-ghost use Rattle.score.specs.Asked.{Sized};
-use crate::Counts;
+ghost use Rattle.score.specs.Inner.{Sized};
 use crate::Fault;
 use crate::Verdict;
 use crate::bytes::read32;
+use crate::contents::Counts;
 use crate::limits::CONTENTS_SIZE;
 use crate::limits::EVENT_SIZE;
 use crate::limits::LONGEST;
 
 pub fn check_events(file: &[u8], c: Counts) -> Verdict
     requires { ⌜ Sized c (length (now file)) ⌝ }
-    ensures { λ r. ⌜ r ≡ eventsRight eventsAt (durationsAt (now (file .entry)) eventsAt (c .events)) ⌝ }
+    ensures { λ r. ⌜ r ≡ verdictOf (eventsRight eventsAt (durationsAt (now (file .entry)) eventsAt (c .events))) ⌝ }
 {
     let mut i = CONTENTS_SIZE;
     let mut left = c.events;

@@ -4,17 +4,23 @@ ghost use Prim.Native.Nat.{_+_, _≤_};
 ghost use lib.ListN.{length};
 ghost use Rattle.score.specs.Limits.{itemSize};
 ghost use Rattle.score.specs.Items.{itemAt, kindRight, wordsRight, partRight, delayRight, inOrder, eventRight, nestingRight, numberRight, actionsRight, fieldsRight, standingRight, itemRight};
-use crate::Counts;
-use crate::Holder;
 use crate::bytes::byte;
 use crate::bytes::read16;
 use crate::bytes::read32;
+use crate::contents::Counts;
 use crate::limits::DEEPEST;
 use crate::limits::LAST_PART;
 use crate::limits::LONGEST;
 use crate::limits::MOST_ACTIONS;
 use page::Item;
 use units::Grains;
+
+// What is asked of an item: at depth 1 not to stand before this event and part, deeper to be of this part.
+pub struct Setting {
+    pub depth: usize,
+    pub event: usize,
+    pub part: usize,
+}
 
 // The item at the byte `at`.
 pub fn item_at(file: &[u8], at: usize) -> Item
@@ -55,7 +61,7 @@ fn words_right(i: Item) -> bool
     i.error == 0
 }
 
-fn part_right(i: Item, h: Holder) -> bool
+fn part_right(i: Item, h: Setting) -> bool
     ensures { λ r. ⌜ r ≡ partRight i h ⌝ }
 {
     if LAST_PART < i.part {
@@ -73,7 +79,7 @@ fn delay_right(i: Item) -> bool
     i.delay.0 <= LONGEST as u64
 }
 
-fn in_order(h: Holder, i: Item) -> bool
+fn in_order(h: Setting, i: Item) -> bool
     ensures { λ r. ⌜ r ≡ inOrder h i ⌝ }
 {
     if i.event != h.event {
@@ -82,7 +88,7 @@ fn in_order(h: Holder, i: Item) -> bool
     h.part <= i.part
 }
 
-fn event_right(i: Item, c: Counts, h: Holder) -> bool
+fn event_right(i: Item, c: Counts, h: Setting) -> bool
     ensures { λ r. ⌜ r ≡ eventRight i c h ⌝ }
 {
     if h.depth != 1 {
@@ -97,7 +103,7 @@ fn event_right(i: Item, c: Counts, h: Holder) -> bool
     in_order(h, i)
 }
 
-fn nesting_right(i: Item, h: Holder, left: usize) -> bool
+fn nesting_right(i: Item, h: Setting, left: usize) -> bool
     ensures { λ r. ⌜ r ≡ nestingRight i h left ⌝ }
 {
     if DEEPEST < h.depth {
@@ -127,7 +133,7 @@ fn actions_right(i: Item, actions: usize) -> bool
     actions < MOST_ACTIONS
 }
 
-fn fields_right(i: Item, h: Holder) -> bool
+fn fields_right(i: Item, h: Setting) -> bool
     ensures { λ r. ⌜ r ≡ fieldsRight i h ⌝ }
 {
     if !kind_right(i) {
@@ -142,7 +148,7 @@ fn fields_right(i: Item, h: Holder) -> bool
     delay_right(i)
 }
 
-fn standing_right(i: Item, c: Counts, h: Holder, left: usize, actions: usize) -> bool
+fn standing_right(i: Item, c: Counts, h: Setting, left: usize, actions: usize) -> bool
     ensures { λ r. ⌜ r ≡ standingRight i c h left actions ⌝ }
 {
     if !event_right(i, c, h) {
@@ -157,8 +163,8 @@ fn standing_right(i: Item, c: Counts, h: Holder, left: usize, actions: usize) ->
     actions_right(i, actions)
 }
 
-// Whether the item is right where it stands: `left` items follow it within its holder, `actions` stand before it on the page.
-pub fn item_right(i: Item, c: Counts, h: Holder, left: usize, actions: usize) -> bool
+// Whether the item is right where it stands: `left` items follow it within what holds it, `actions` stand before it on the page.
+pub fn item_right(i: Item, c: Counts, h: Setting, left: usize, actions: usize) -> bool
     ensures { λ r. ⌜ r ≡ itemRight i c h left actions ⌝ }
 {
     if !fields_right(i, h) {

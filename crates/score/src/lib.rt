@@ -1,8 +1,8 @@
 // The score file: whether one is right and where the first fault is, what it says, and the labels of its messages.
 ghost use mathlib.Core.Path.{_≡_};
 ghost use Prim.Native.Nat.{_≤_, _<_};
-ghost use Rattle.score.specs.Limits.{mostEvents, mostItems, mostMessages};
-ghost use Rattle.score.specs.Replies.{replyOf};
+ghost use Rattle.score.specs.Limits.{mostEvents, mostItems};
+ghost use Rattle.score.specs.Replies.{replyOf, verdictOf};
 ghost use Rattle.score.specs.Contents.{countsOf};
 ghost use Rattle.score.specs.File.{checked, Accepted};
 ghost use Rattle.score.specs.LookUp.{labelReply, labelSpan, Part};
@@ -19,7 +19,7 @@ use limits::EVENT_SIZE;
 use limits::ITEM_SIZE;
 use look_up::label_span;
 use page::Item;
-use replies::table_row;
+use replies::fault_row;
 use units::Grains;
 
 mod bodies;
@@ -31,7 +31,7 @@ mod limits;
 mod look_up;
 mod messages;
 mod replies;
-mod table;
+mod walk;
 
 // What can be wrong with a file, and with a message asked of it: one case for each row of the reply table.
 pub enum Fault {
@@ -67,53 +67,9 @@ pub struct Reply {
     pub place: usize,
 }
 
-// The table of contents: where each body starts, and how many it has.
-pub struct Offsets {
-    pub events: usize,
-    pub items: usize,
-    pub messages: usize,
-    pub text: usize,
-}
-
-pub struct Counts {
-    pub events: usize,
-    pub items: usize,
-    pub messages: usize,
-    pub text: usize,
-}
-
-// What is asked of an item: at depth 1 not to stand before this event and part, deeper to be of this part.
-pub struct Holder {
-    pub depth: usize,
-    pub event: usize,
-    pub part: usize,
-}
-
-// How a walk of items ends: with so many actions, or at the first byte of the first bad item.
-pub enum Walk {
-    Actions(usize),
-    Stop(usize),
-}
-
-// What the walk goes on with after an item: the items within it and after it, the actions so far, and its event and part.
-pub struct Step {
-    pub right: bool,
-    pub body: usize,
-    pub after: usize,
-    pub actions: usize,
-    pub event: usize,
-    pub part: usize,
-}
-
-// Where a label lies in the file.
-pub struct Span {
-    pub start: usize,
-    pub size: usize,
-}
-
 // The first fault of a file.
 pub fn check_file(file: &[u8]) -> Verdict
-    ensures { λ r. ⌜ r ≡ checked (now (file .entry)) ⌝ }
+    ensures { λ r. ⌜ r ≡ verdictOf (checked (now (file .entry))) ⌝ }
 {
     if file.len() < CONTENTS_SIZE {
         return Verdict::Refused(Fault::FileShort);
@@ -139,13 +95,13 @@ pub fn replied(v: Verdict) -> Reply
             number: 0,
             place: 0,
         },
-        Verdict::Refused(x) => table_row(x),
+        Verdict::Refused(x) => fault_row(x),
     }
 }
 
 // The text look-up's reply. The number is taken whole, however large.
 pub fn label_reply(file: &[u8], n: u64) -> Verdict
-    ensures { λ r. ⌜ r ≡ labelReply (now (file .entry)) n ⌝ }
+    ensures { λ r. ⌜ r ≡ verdictOf (labelReply (now (file .entry)) n) ⌝ }
 {
     let v = check_file(file);
     let Verdict::Fine = v else {
@@ -168,7 +124,7 @@ pub fn label(file: &[u8], n: u64) -> &[u8]
     &file[start..end]
 }
 
-// How many events, items and messages an accepted file has.
+// How many events and items an accepted file has.
 pub fn event_count(file: &[u8]) -> usize
     requires { ⌜ Accepted (now file) ⌝ }
     ensures { λ r. ⌜ (r ≡ countsOf (now (file .entry)) .events) × (1 ≤ r) × (r ≤ mostEvents) ⌝ }
@@ -183,14 +139,6 @@ pub fn item_count(file: &[u8]) -> usize
 {
     let c = read_counts(file);
     c.items
-}
-
-pub fn message_count(file: &[u8]) -> usize
-    requires { ⌜ Accepted (now file) ⌝ }
-    ensures { λ r. ⌜ (r ≡ countsOf (now (file .entry)) .messages) × (r ≤ mostMessages) ⌝ }
-{
-    let c = read_counts(file);
-    c.messages
 }
 
 // The duration of event k + 1.

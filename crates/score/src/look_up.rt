@@ -3,16 +3,21 @@ ghost use mathlib.Core.Path.{_≡_};
 ghost use Prim.Native.Nat.{_+_, _≤_};
 ghost use lib.ListN.{length};
 ghost use Rattle.score.specs.LookUp.{labelSpan};
-ghost use Rattle.score.specs.Asked.{Granted};
-use crate::Counts;
-use crate::Span;
+ghost use Rattle.score.specs.Inner.{Granted};
 use crate::Verdict;
 use crate::bytes::read16;
+use crate::contents::Counts;
 use crate::contents::messages_at;
 use crate::contents::read_counts;
 use crate::contents::text_at;
 use crate::label_reply;
 use crate::limits::MESSAGE_SIZE;
+
+// Where a label lies in the file.
+pub struct Span {
+    pub start: usize,
+    pub size: usize,
+}
 
 // The span of message `n` of a file that is right and has it.
 fn read_span(file: &[u8], c: Counts, n: usize) -> Span

@@ -4,14 +4,15 @@ ghost use Prim.Native.Nat.{_+_, _≤_, _<_};
 ghost use lib.ListN.{length};
 ghost use Rattle.score.specs.Limits.{messageSize};
 ghost use Rattle.score.specs.Bytes.{part};
+ghost use Rattle.score.specs.Replies.{verdictOf};
 ghost use Rattle.score.specs.Contents.{messagesAt};
 ghost use Rattle.score.specs.Messages.{labelByte, readable, messageRight, messagesRight};
-ghost use Rattle.score.specs.Asked.{Sized};
-use crate::Counts;
+ghost use Rattle.score.specs.Inner.{Sized};
 use crate::Fault;
 use crate::Verdict;
 use crate::bytes::byte;
 use crate::bytes::read16;
+use crate::contents::Counts;
 use crate::contents::messages_at;
 use crate::contents::text_at;
 use crate::limits::LONGEST_LABEL;
@@ -69,7 +70,7 @@ fn message_right(file: &[u8], c: Counts, at: usize, from: usize) -> bool
 
 pub fn check_messages(file: &[u8], c: Counts) -> Verdict
     requires { ⌜ Sized c (length (now file)) ⌝ }
-    ensures { λ r. ⌜ r ≡ messagesRight (now (file .entry)) c (messagesAt c) (c .messages) 0 ⌝ }
+    ensures { λ r. ⌜ r ≡ verdictOf (messagesRight (now (file .entry)) c (messagesAt c) (c .messages) 0) ⌝ }
 {
     let mut i = messages_at(c);
     let mut left = c.messages;

@@ -1,6 +1,6 @@
 // The reply table: the number and the place of every fault.
 ghost use mathlib.Core.Path.{_≡_};
-ghost use Rattle.score.specs.Replies.{tableRow};
+ghost use Rattle.score.specs.Replies.{faultRow};
 use crate::Fault;
 use crate::Reply;
 
@@ -10,8 +10,8 @@ fn row(number: usize, place: usize) -> Reply
     Reply { number, place }
 }
 
-pub fn table_row(x: Fault) -> Reply
-    ensures { λ r. ⌜ r ≡ tableRow x ⌝ }
+pub fn fault_row(x: Fault) -> Reply
+    ensures { λ r. ⌜ r ≡ faultRow x ⌝ }
 {
     match x {
         Fault::FileShort => row(3, 0),

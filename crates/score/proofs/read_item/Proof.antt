@@ -5,20 +5,11 @@ use Rattle.score.proofs.Readers.{items, item-within}
 use Rattle.score.proofs.read_item.Statement.{statement}
 use Rattle.score.proofs.read_item.Tie as tie
 
-read-counts-requires : tie.Need-read-counts-requires
-read-counts-requires c κs = search items
-
-items-at-requires : tie.Need-items-at-requires
-items-at-requires c κs = search items
-
 mul-item-at : tie.Need-mul-item-at
 mul-item-at c = let w = item-within _ _ (c .before .before .before .pre) _ _ (c .before .read-counts .ensures) (c .items-at .ensures) in search needs
 
 add-item-at : tie.Need-add-item-at
 add-item-at c = let w = item-within _ _ (c .before .before .before .pre) _ _ (c .before .read-counts .ensures) (c .items-at .ensures) in search needs
-
-item-at-requires : tie.Need-item-at-requires
-item-at-requires c κs = search items
 
 returns : tie.Need-returns
 returns c = search items
@@ -27,9 +18,9 @@ pub read-item-spec : {M : Type 1} → statement M
 read-item-spec =
     tie.close
     (tie.spec
-    read-counts-requires
-    items-at-requires
+    (λ c κs. search items)
+    (λ c κs. search items)
     mul-item-at
     add-item-at
-    item-at-requires
+    (λ c κs. search items)
     returns)

@@ -1,26 +1,24 @@
 -- No fault is row 0; a fault has its own row.
 -- Assumes nothing.
+use mathlib.Core.Path.{_≡_}
 use borrow.Author.Needs.{needs}
+use Rattle.score.specs.declared.Reply.{Reply}
+use Rattle.score.specs.declared.Verdict.{Verdict}
 use Rattle.score.specs.Replies.{replyOf}
 use Rattle.score.proofs.replied.Statement.{statement}
 use Rattle.score.proofs.replied.Tie as tie
 
-enum-told : tie.Need-enum-told
-enum-told c = search needs
-
-enum-known-v : tie.Need-enum-known-v
-enum-known-v c = search needs
-
-table-row-requires : tie.Need-table-row-requires
-table-row-requires c κs = search needs
+-- the reply to a verdict is the reply to the case that it is
+case-of : (v w : Verdict) (r : Reply) → v ≡ w → r ≡ replyOf w → r ≡ replyOf v
+case-of v w r e p = rw e p
 
 returns : tie.Need-returns
 unfolding replyOf
-returns c = cc
+returns c = search case-of
 
 returns-2 : tie.Need-returns-2
 unfolding replyOf
-returns-2 c = cc
+returns-2 c = search case-of
 
 pub replied-spec : {M : Type 1} → statement M
-replied-spec = tie.close (tie.spec enum-told enum-known-v table-row-requires returns returns-2)
+replied-spec = tie.close (tie.spec (λ c. search needs) (λ c. search needs) (λ c κs. search needs) returns returns-2)

@@ -1,17 +1,21 @@
 -- The offsets read, held against the counts and the file's own length.
 -- Assumes nothing.
+use mathlib.Core.Path.{_≡_}
+use Prim.Native.Nat.{ℕ}
 use borrow.Author.Needs.{needs}
+use Rattle.score.specs.declared.Verdict.{Verdict}
+use Rattle.score.specs.declared.contents.Counts.{Counts}
+use Rattle.score.specs.declared.contents.Offsets.{Offsets}
+use Rattle.score.specs.Replies.{verdictOf}
+use Rattle.score.specs.Contents.{offsetsRight}
 use Rattle.score.proofs.contents.check_layout.Statement.{statement}
 use Rattle.score.proofs.contents.check_layout.Tie as tie
 
-read-offsets-requires : tie.Need-read-offsets-requires
-read-offsets-requires c κs = search needs
-
-check-offsets-requires : tie.Need-check-offsets-requires
-check-offsets-requires c κs = search needs
+offsets-told : (o p : Offsets) (c : Counts) (size : ℕ) (v : Verdict) → o ≡ p → v ≡ verdictOf (offsetsRight o c size) → v ≡ verdictOf (offsetsRight p c size)
+offsets-told o p c size v e q = rw e at q
 
 returns : tie.Need-returns
-returns c = cc
+returns c = search (offsets-told, needs)
 
 pub check-layout-spec : {M : Type 1} → statement M
-check-layout-spec = tie.close (tie.spec read-offsets-requires check-offsets-requires returns)
+check-layout-spec = tie.close (tie.spec (λ c κs. search needs) (λ c κs. search needs) returns)

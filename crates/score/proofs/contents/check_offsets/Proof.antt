@@ -10,29 +10,17 @@ returns : tie.Need-returns
 unfolding offsetsRight
 returns c = search places depth 9
 
-items-at-requires : tie.Need-items-at-requires
-items-at-requires c κs = search needs
-
 returns-2 : tie.Need-returns-2
 unfolding offsetsRight
 returns-2 c = search places depth 9
-
-messages-at-requires : tie.Need-messages-at-requires
-messages-at-requires c κs = search needs
 
 returns-3 : tie.Need-returns-3
 unfolding offsetsRight
 returns-3 c = search places depth 9
 
-text-at-requires : tie.Need-text-at-requires
-text-at-requires c κs = search needs
-
 returns-4 : tie.Need-returns-4
 unfolding offsetsRight
 returns-4 c = search places depth 9
-
-size-of-requires : tie.Need-size-of-requires
-size-of-requires c κs = search needs
 
 returns-5 : tie.Need-returns-5
 unfolding offsetsRight
@@ -47,12 +35,12 @@ check-offsets-spec =
     tie.close
     (tie.spec
     returns
-    items-at-requires
+    (λ c κs. search needs)
     returns-2
-    messages-at-requires
+    (λ c κs. search needs)
     returns-3
-    text-at-requires
+    (λ c κs. search needs)
     returns-4
-    size-of-requires
+    (λ c κs. search needs)
     returns-5
     returns-6)

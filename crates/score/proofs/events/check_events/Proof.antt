@@ -16,26 +16,11 @@ Inv-loop file i₀ left₀ i left = (i + eventSize * left ≤ length file) × (e
 abbrev μ-loop : tie.MeasureT-loop
 μ-loop file i₀ left₀ i left = left
 
-loop-holds : tie.Need-loop-holds Inv-loop μ-loop
-loop-holds c = search events
-
-read32-requires : tie.Need-read32-requires Inv-loop μ-loop
-read32-requires c κs = search events
-
 returns : tie.Need-returns Inv-loop μ-loop
 returns c = search events
 
 returns-2 : tie.Need-returns-2 Inv-loop μ-loop
 returns-2 c = search events
-
-add-i : tie.Need-add-i Inv-loop μ-loop
-add-i c = search events
-
-sub-left : tie.Need-sub-left Inv-loop μ-loop
-sub-left c = search events
-
-loop-less : tie.Need-loop-less Inv-loop μ-loop
-loop-less c = search events
 
 loop-again : tie.Need-loop-again Inv-loop μ-loop
 loop-again c = search events
@@ -49,12 +34,12 @@ check-events-spec =
     (tie.spec
     Inv-loop
     μ-loop
-    loop-holds
-    read32-requires
+    (λ c. search events)
+    (λ c κs. search events)
     returns
     returns-2
-    add-i
-    sub-left
-    loop-less
+    (λ c. search events)
+    (λ c. search events)
+    (λ c. search events)
     loop-again
     returns-3)

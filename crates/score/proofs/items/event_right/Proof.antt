@@ -18,12 +18,9 @@ returns-3 : tie.Need-returns-3
 unfolding eventRight
 returns-3 c = search tests depth 9
 
-in-order-requires : tie.Need-in-order-requires
-in-order-requires c κs = search needs
-
 returns-4 : tie.Need-returns-4
 unfolding eventRight
 returns-4 c = search tests depth 9
 
 pub event-right-spec : {M : Type 1} → statement M
-event-right-spec = tie.close (tie.spec returns returns-2 returns-3 in-order-requires returns-4)
+event-right-spec = tie.close (tie.spec returns returns-2 returns-3 (λ c κs. search needs) returns-4)

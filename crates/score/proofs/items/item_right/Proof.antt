@@ -6,15 +6,9 @@ use Rattle.score.specs.Items.{itemRight}
 use Rattle.score.proofs.items.item_right.Statement.{statement}
 use Rattle.score.proofs.items.item_right.Tie as tie
 
-fields-right-requires : tie.Need-fields-right-requires
-fields-right-requires c κs = search needs
-
 returns : tie.Need-returns
 unfolding itemRight
 returns c = search calls depth 9
-
-standing-right-requires : tie.Need-standing-right-requires
-standing-right-requires c κs = search needs
 
 returns-2 : tie.Need-returns-2
 unfolding itemRight
@@ -22,4 +16,4 @@ returns-2 c = search calls depth 9
 
 pub item-right-spec : {M : Type 1} → statement M
 item-right-spec =
-    tie.close (tie.spec fields-right-requires returns standing-right-requires returns-2)
+    tie.close (tie.spec (λ c κs. search needs) returns (λ c κs. search needs) returns-2)

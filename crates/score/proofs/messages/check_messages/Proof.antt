@@ -18,35 +18,8 @@ Inv-loop file c i₀ left₀ from₀ i left from =
 abbrev μ-loop : tie.MeasureT-loop
 μ-loop file c i₀ left₀ from₀ i left from = left
 
-messages-at-requires : tie.Need-messages-at-requires Inv-loop μ-loop
-messages-at-requires c κs = search messages
-
-loop-holds : tie.Need-loop-holds Inv-loop μ-loop
-loop-holds c = search messages
-
-message-right-requires : tie.Need-message-right-requires Inv-loop μ-loop
-message-right-requires c κs = search messages
-
 returns : tie.Need-returns Inv-loop μ-loop
 returns c = search messages
-
-add-read16 : tie.Need-add-read16 Inv-loop μ-loop
-add-read16 c = search messages
-
-read16-requires : tie.Need-read16-requires Inv-loop μ-loop
-read16-requires c κs = search messages
-
-add-from : tie.Need-add-from Inv-loop μ-loop
-add-from c = search messages
-
-add-i : tie.Need-add-i Inv-loop μ-loop
-add-i c = search messages
-
-sub-left : tie.Need-sub-left Inv-loop μ-loop
-sub-left c = search messages
-
-loop-less : tie.Need-loop-less Inv-loop μ-loop
-loop-less c = search messages
 
 loop-again : tie.Need-loop-again Inv-loop μ-loop
 loop-again c = search messages
@@ -63,16 +36,16 @@ check-messages-spec =
     (tie.spec
     Inv-loop
     μ-loop
-    messages-at-requires
-    loop-holds
-    message-right-requires
+    (λ c κs. search messages)
+    (λ c. search messages)
+    (λ c κs. search messages)
     returns
-    add-read16
-    read16-requires
-    add-from
-    add-i
-    sub-left
-    loop-less
+    (λ c. search messages)
+    (λ c κs. search messages)
+    (λ c. search messages)
+    (λ c. search messages)
+    (λ c. search messages)
+    (λ c. search messages)
     loop-again
     returns-2
     returns-3)

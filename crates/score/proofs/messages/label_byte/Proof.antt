@@ -1,14 +1,14 @@
 -- A byte is below 256, so only the two tests are left of the definition.
 -- Assumes nothing.
 use borrow.Author.Needs.{needs}
-use Rattle.base.proofs.TestLaws.{tests}
+use Rattle.base.proofs.TestLaws.{every-stop, between-under, tests}
 use Rattle.score.specs.Messages.{labelByte}
 use Rattle.score.proofs.messages.label_byte.Statement.{statement}
 use Rattle.score.proofs.messages.label_byte.Tie as tie
 
 returns : tie.Need-returns
 unfolding labelByte
-returns c = search (tests, needs) depth 9
+returns c = search (every-stop, between-under, needs)
 
 returns-2 : tie.Need-returns-2
 unfolding labelByte

@@ -15,26 +15,8 @@ Inv-loop file at count i₀ left₀ i left = (i + left ≤ length file) × (read
 abbrev μ-loop : tie.MeasureT-loop
 μ-loop file at count i₀ left₀ i left = left
 
-loop-holds : tie.Need-loop-holds Inv-loop μ-loop
-loop-holds c = search labels
-
-byte-requires : tie.Need-byte-requires Inv-loop μ-loop
-byte-requires c κs = search labels
-
-label-byte-requires : tie.Need-label-byte-requires Inv-loop μ-loop
-label-byte-requires c κs = search labels
-
 returns : tie.Need-returns Inv-loop μ-loop
 returns c = search labels
-
-add-i : tie.Need-add-i Inv-loop μ-loop
-add-i c = search labels
-
-sub-left : tie.Need-sub-left Inv-loop μ-loop
-sub-left c = search labels
-
-loop-less : tie.Need-loop-less Inv-loop μ-loop
-loop-less c = search labels
 
 loop-again : tie.Need-loop-again Inv-loop μ-loop
 loop-again c = search labels
@@ -48,12 +30,12 @@ label-bytes-spec =
     (tie.spec
     Inv-loop
     μ-loop
-    loop-holds
-    byte-requires
-    label-byte-requires
+    (λ c. search labels)
+    (λ c κs. search labels)
+    (λ c κs. search labels)
     returns
-    add-i
-    sub-left
-    loop-less
+    (λ c. search labels)
+    (λ c. search labels)
+    (λ c. search labels)
     loop-again
     returns-2)

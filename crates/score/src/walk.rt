@@ -4,20 +4,35 @@ ghost use mathlib.Core.Bool.{true};
 ghost use Prim.Native.Nat.{_+_, _*_, _≤_};
 ghost use lib.ListN.{length};
 ghost use Rattle.score.specs.Limits.{itemSize, mostActions};
+ghost use Rattle.score.specs.Replies.{verdictOf};
 ghost use Rattle.score.specs.Contents.{itemsAt};
 ghost use Rattle.score.specs.Items.{itemAt, itemsFrom, walked, itemsRight};
-ghost use Rattle.score.specs.Asked.{Sized, stepOf, refusal, judged, Bounded, Room, Walkable};
-use crate::Counts;
+ghost use Rattle.score.specs.Inner.{Sized, stepOf, refusal, judged, StepFits, Room, Walkable};
 use crate::Fault;
-use crate::Holder;
-use crate::Step;
 use crate::Verdict;
-use crate::Walk;
+use crate::contents::Counts;
 use crate::contents::items_at;
+use crate::items::Setting;
 use crate::items::item_at;
 use crate::items::item_right;
 use crate::limits::ITEM_SIZE;
 use page::Item;
+
+// How a walk of items ends: with so many actions, or with the fault of the first bad item.
+pub enum Walk {
+    Actions(usize),
+    Stop(Fault),
+}
+
+// What the walk goes on with after an item: the items within it and after it, the actions so far, and its event and part.
+pub struct Step {
+    pub right: bool,
+    pub body: usize,
+    pub after: usize,
+    pub actions: usize,
+    pub event: usize,
+    pub part: usize,
+}
 
 // What the walk goes on with after a right item of this event and part.
 fn going_on(event: usize, part: usize, body: usize, after: usize, actions: usize) -> Step
@@ -35,7 +50,7 @@ fn going_on(event: usize, part: usize, body: usize, after: usize, actions: usize
 
 fn accepted(i: Item, left: usize, actions: usize) -> Step
     requires { ⌜ Room i left actions ⌝ }
-    ensures { λ r. ⌜ (r ≡ stepOf i left actions) × Bounded left r ⌝ }
+    ensures { λ r. ⌜ (r ≡ stepOf i left actions) × StepFits left r ⌝ }
 {
     if i.kind == 0 {
         return going_on(i.event, i.part, 0, left, actions + 1);
@@ -45,7 +60,7 @@ fn accepted(i: Item, left: usize, actions: usize) -> Step
 
 // What stands for a wrong one.
 fn refused(left: usize) -> Step
-    ensures { λ r. ⌜ (r ≡ refusal left) × Bounded left r ⌝ }
+    ensures { λ r. ⌜ (r ≡ refusal left) × StepFits left r ⌝ }
 {
     Step {
         right: false,
@@ -57,10 +72,10 @@ fn refused(left: usize) -> Step
     }
 }
 
-// The item at the byte `at`, which `left` items follow within its holder.
-fn judge(file: &[u8], c: Counts, at: usize, h: Holder, left: usize, actions: usize) -> Step
+// The item at the byte `at`, which `left` items follow within what holds it.
+fn judge(file: &[u8], c: Counts, at: usize, h: Setting, left: usize, actions: usize) -> Step
     requires { ⌜ (at + itemSize ≤ length (now file)) × (actions ≤ mostActions) ⌝ }
-    ensures { λ r. ⌜ (r ≡ judged (itemAt (now (file .entry)) at) c h left actions) × Bounded left r ⌝ }
+    ensures { λ r. ⌜ (r ≡ judged (itemAt (now (file .entry)) at) c h left actions) × StepFits left r ⌝ }
 {
     let i = item_at(file, at);
     if !item_right(i, c, h, left, actions) {
@@ -70,7 +85,7 @@ fn judge(file: &[u8], c: Counts, at: usize, h: Holder, left: usize, actions: usi
 }
 
 // The `count` items from the byte `at` on, and all within them. The items of a group are fewer than those of what holds it.
-fn walk_items(file: &[u8], c: Counts, at: usize, count: usize, h: Holder, actions: usize) -> Walk
+fn walk_items(file: &[u8], c: Counts, at: usize, count: usize, h: Setting, actions: usize) -> Walk
     requires { ⌜ Walkable (length (now file)) at count h actions ⌝ }
     ensures { λ r. ⌜ r ≡ walked c at (itemsFrom (now (file .entry)) at count) h actions ⌝ }
 {
@@ -81,13 +96,13 @@ fn walk_items(file: &[u8], c: Counts, at: usize, count: usize, h: Holder, action
     let mut n = actions;
     let depth = h.depth;
     while 0 < left {
-        let around = Holder { depth, event, part };
+        let around = Setting { depth, event, part };
         let s = judge(file, c, i, around, left - 1, n);
         if !s.right {
-            return Walk::Stop(i);
+            return Walk::Stop(Fault::BadItem(i));
         }
         let body = s.body;
-        let inner = Holder {
+        let inner = Setting {
             depth: depth + 1,
             event: 0,
             part: s.part,
@@ -107,16 +122,16 @@ fn walk_items(file: &[u8], c: Counts, at: usize, count: usize, h: Holder, action
 
 pub fn check_items(file: &[u8], c: Counts) -> Verdict
     requires { ⌜ Sized c (length (now file)) ⌝ }
-    ensures { λ r. ⌜ r ≡ itemsRight c (itemsFrom (now (file .entry)) (itemsAt c) (c .items)) ⌝ }
+    ensures { λ r. ⌜ r ≡ verdictOf (itemsRight c (itemsFrom (now (file .entry)) (itemsAt c) (c .items))) ⌝ }
 {
-    let top = Holder {
+    let outset = Setting {
         depth: 1,
         event: 0,
         part: 0,
     };
-    let w = walk_items(file, c, items_at(c), c.items, top, 0);
+    let w = walk_items(file, c, items_at(c), c.items, outset, 0);
     match w {
         Walk::Actions(_) => Verdict::Fine,
-        Walk::Stop(at) => Verdict::Refused(Fault::BadItem(at)),
+        Walk::Stop(x) => Verdict::Refused(x),
     }
 }

@@ -8,7 +8,7 @@ use native.Mathlib.Numerals.{add-one}
 use lib.ListN.{length, getD, take, drop, length-drop}
 use lib.Seq.{drop-cons, length-take-le}
 use Rattle.page.specs.declared.Item.{Item}
-use Rattle.score.specs.declared.Counts.{Counts}
+use Rattle.score.specs.declared.contents.Counts.{Counts}
 use Rattle.score.specs.Limits.{eventSize, itemSize, messageSize}
 use Rattle.score.specs.Bytes.{byteAt, u32At, part}
 use Rattle.score.specs.Contents.{countsOf, eventsAt, itemsAt, messagesAt}

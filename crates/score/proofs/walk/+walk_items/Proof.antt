@@ -10,12 +10,12 @@ use Rattle.score.proofs.WalkLaws.{walked-small}
 use Rattle.score.proofs.WalkSteps.{walks, walk-none, walk-step}
 use borrow.Fn.Kinds.{In}
 use borrow.Fn.PlainCycle.{Measures, is, falls, and}
-use Rattle.score.proofs.table.walk_items.Reads as walk-items
-use Rattle.score.proofs.table.walk_items.Kinds as walk-items-kinds
-use Rattle.score.proofs.table.+walk_items.Lts-walk_items as lts
-use Rattle.score.proofs.table.judge.Reads as judge-reads
-use Rattle.score.proofs.table.+walk_items.{statement}
-use Rattle.score.proofs.table.+walk_items.Tie.{close}
+use Rattle.score.proofs.walk.walk_items.Reads as walk-items
+use Rattle.score.proofs.walk.walk_items.Kinds as walk-items-kinds
+use Rattle.score.proofs.walk.+walk_items.Lts-walk_items as lts
+use Rattle.score.proofs.walk.judge.Reads as judge-reads
+use Rattle.score.proofs.walk.+walk_items.{statement}
+use Rattle.score.proofs.walk.+walk_items.Tie.{close}
 
 abbrev μ-walk-items : Measures 1 walk-items-kinds.ps ℕ
 μ-walk-items κs a = a .1 .1 .1 .0
