@@ -7,10 +7,10 @@ use native.Mathlib.Omega.{arith}
 use lib.ListN.{length, getD, set, take, drop, length-set}
 use lib.Seq.{take-set-le, getD-take}
 use Rattle.rules.specs.Rules.{Reading, Line, line}
-use Rattle.evaluators.specs.declared.Tables.{Tables}
-use Rattle.evaluators.specs.Fields.{itemIn, startIn, takenIn, outcomeWord}
-use Rattle.evaluators.specs.Tables.{read, startAt, takenAt, halved, lastIn, readingIn, itemsIn}
-use Rattle.evaluators.specs.Inner.{wordAt, Lent, sequenceIn, writeLines}
+use Rattle.fates.specs.declared.Places.{Places}
+use Rattle.fates.specs.Fields.{itemIn, startIn, takenIn, outcomeWord}
+use Rattle.fates.specs.Places.{read, startAt, becameIn, halved, lastIn, readingIn, itemsIn}
+use Rattle.evaluators.specs.Inner.{itemWordAt, Lent, sequenceIn, writeLines}
 
 pub writes-append : (b : ℕ) (k l : List Line) (m : List ℕ) → writeLines b (k ++ l) m ≡ writeLines b l (writeLines b k m)
 unfolding writeLines
@@ -27,8 +27,8 @@ unfolding writeLines
 writes-behind b [] m = refl
 writes-behind b (line p a o ∷ l) m = writes-behind b l (set m (b + p) (outcomeWord o)) ∙ take-set-le b m (b + p) (outcomeWord o) (omega arith)
 
--- what the tables say, of the words before the outcomes alone
-readingFrom : Tables → List ℕ → Reading
+-- what the reading is, of the words before the outcomes alone
+readingFrom : Places → List ℕ → Reading
 readingFrom t r =
     record {
       start = λ k. startIn (getD r (t .starts + k) 0);
@@ -36,26 +36,34 @@ readingFrom t r =
       became = λ k. takenIn k (getD r (t .taken + k) 0);
     }
 
-reading-from : (t : Tables) (m : List ℕ) → readingIn t m ≡ readingFrom t (read t m)
-unfolding readingIn startAt takenAt lastIn readingFrom
+reading-from : (t : Places) (m : List ℕ) → readingIn t m ≡ readingFrom t (read t m)
+unfolding readingIn startAt becameIn lastIn readingFrom
 reading-from t m = refl
 
-module _ (t : Tables) (l : List Line) (m m′ : List ℕ) (is : m′ ≡ writeLines (t .outcomes) l m) where
-  same-read : read t m′ ≡ read t m
-  same-read = rw is (writes-behind (t .outcomes) l m)
+-- words that agree before the outcomes are read alike
+module _ (t : Places) (m m′ : List ℕ) (same : read t m′ ≡ read t m) where
+  pub reading-alike : readingIn t m′ ≡ readingIn t m
+  reading-alike = reading-from t m′ ∙ ap (readingFrom t) same ∙ sym (reading-from t m)
 
-  pub same-reading : readingIn t m′ ≡ readingIn t m
-  same-reading = reading-from t m′ ∙ ap (readingFrom t) same-read ∙ sym (reading-from t m)
-
-  pub same-items : itemsIn t m′ ≡ itemsIn t m
+  pub items-alike : itemsIn t m′ ≡ itemsIn t m
   unfolding itemsIn
-  same-items = ap (λ (r : List ℕ). map itemIn (take (t .size) (drop (t .items) r))) same-read
+  items-alike = ap (λ (r : List ℕ). map itemIn (take (t .size) (drop (t .items) r))) same
 
-  pub same-sequence : (v p count : ℕ) → sequenceIn t m′ v p count ≡ sequenceIn t m v p count
+module _ (t : Places) (l : List Line) (m m′ : List ℕ) (is : m′ ≡ writeLines (t .outcomes) l m) where
+  read-kept : read t m′ ≡ read t m
+  read-kept = rw is (writes-behind (t .outcomes) l m)
+
+  pub reading-kept : readingIn t m′ ≡ readingIn t m
+  reading-kept = reading-alike t m m′ read-kept
+
+  pub items-kept : itemsIn t m′ ≡ itemsIn t m
+  items-kept = items-alike t m m′ read-kept
+
+  pub sequence-kept : (v p count : ℕ) → sequenceIn t m′ v p count ≡ sequenceIn t m v p count
   unfolding sequenceIn
-  same-sequence v p count = rw same-items
+  sequence-kept v p count = rw items-kept
 
 -- a word of the page
-pub word-read : (t : Tables) (m : List ℕ) (p count : ℕ) → Lent t m p count → 0 < count → getD m (t .items + p) 0 ≡ wordAt t m p
-unfolding wordAt
+pub word-read : (t : Places) (m : List ℕ) (p count : ℕ) → Lent t m p count → 0 < count → getD m (t .items + p) 0 ≡ itemWordAt t m p
+unfolding itemWordAt
 word-read t m p count lent some = sym (getD-take (t .outcomes) m (t .items + p) 0 (omega arith))

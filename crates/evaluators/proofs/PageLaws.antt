@@ -15,31 +15,32 @@ use Rattle.rules.specs.declared.ErrorWord.the-variants.{Local as local}
 use Rattle.rules.specs.declared.Taken.{Taken}
 use Rattle.rules.specs.declared.Taken.the-variants.{Heard as heard, Missed as missed, Unsettled as unsettled}
 use Rattle.rules.specs.declared.Fate.the-variants.{NotYet as notYet}
-use Rattle.rules.specs.Rules.{Line, line, heardGroup, missedTop, enter, top, perform}
+use Rattle.rules.specs.Rules.{Line, line, heardGroup, missedTop, enter, topHolder, perform}
 use Rattle.rules.specs.Page.{levels, sequenceOf, runLength, Entry, entriesOf, entries, Cue, cast, cues}
-use Rattle.evaluators.specs.declared.Tables.{Tables}
-use Rattle.evaluators.specs.Fields.{itemIn, outcomeWord}
-use Rattle.evaluators.specs.Tables.{Laid, readingIn, itemsIn, writeAll, performed}
-use Rattle.evaluators.specs.Inner.{Lent, Dated, wordAt, sequenceIn, writeLines, owed, sequenceDone, owedFrom, Advanced}
-use Rattle.evaluators.proofs.ReadLaws.{next-of}
-use Rattle.evaluators.proofs.SequenceLaws.{items-length, items-at}
-use Rattle.evaluators.proofs.FrameLaws.{same-reading, same-items}
+use Rattle.fates.specs.declared.Places.{Places}
+use Rattle.fates.specs.Fields.{itemIn, outcomeWord}
+use Rattle.fates.specs.Places.{PlacesFit, readingIn, itemsIn}
+use Rattle.evaluators.specs.Performed.{writeAll, performed}
+use Rattle.evaluators.specs.Inner.{Lent, Dated, itemWordAt, sequenceIn, writeLines, owed, sequenceDone, owedFrom, Advanced}
+use Rattle.fates.proofs.ReadLaws.{next-of}
+use Rattle.evaluators.proofs.SequenceLaws.{items-count, items-from}
+use Rattle.evaluators.proofs.FrameLaws.{reading-kept, items-kept}
 use Rattle.evaluators.proofs.WalkLaws.{still-waiting}
 use Rattle.evaluators.proofs.RunLaws.{word-in}
 
 -- ---- a sequence, by what has become of its event
 
-module _ (t : Tables) (m m′ : List ℕ) (v p count i : ℕ) (a : Taken) (s : Grains) (is : a ≡ readingIn t m .became i) (starts : s .0 ≡ readingIn t m .start i) where
+module _ (t : Places) (m m′ : List ℕ) (v p count i : ℕ) (a : Taken) (s : Grains) (is : a ≡ readingIn t m .became i) (starts : s .0 ≡ readingIn t m .start i) where
   pub done-heard : a ≡ heard → m′ ≡ owed t (heardGroup loose local i (s .0)) 0 m v p count → m′ ≡ sequenceDone t m v p count i
-  unfolding sequenceDone perform top owed
+  unfolding sequenceDone perform topHolder owed
   done-heard e em = rw (← is, e, ← starts) em
 
   pub done-missed : (j : ℕ) → a ≡ missed j → m′ ≡ owed t (missedTop j (s .0)) 0 m v p count → m′ ≡ sequenceDone t m v p count i
-  unfolding sequenceDone perform top owed
+  unfolding sequenceDone perform topHolder owed
   done-missed j e em = rw (← is, e, ← starts) em
 
-pub done-waiting : (t : Tables) (m m′ : List ℕ) (v p count i : ℕ) (a : Taken) → a ≡ readingIn t m .became i → a ≡ unsettled → m′ ≡ owed t (enter notYet loose local) 0 m v p count → m′ ≡ sequenceDone t m v p count i
-unfolding sequenceDone perform top owed enter
+pub done-waiting : (t : Places) (m m′ : List ℕ) (v p count i : ℕ) (a : Taken) → a ≡ readingIn t m .became i → a ≡ unsettled → m′ ≡ owed t (enter notYet loose local) 0 m v p count → m′ ≡ sequenceDone t m v p count i
+unfolding sequenceDone perform topHolder owed enter
 done-waiting t m m′ v p count i a is e em = rw (← is, e) em
 
 pub dated-start : (i s p : ℕ) → i ≤ 256 → s < 2 ^ 31 → Dated i s p
@@ -72,55 +73,55 @@ write-cast b p [] m = refl
 write-cast b p (line q a o ∷ l) m = write-cast b p l (set m (b + q) (outcomeWord o))
 
 -- the first sequence of what is left of the page, and the others
-entries-first : (t : Tables) (m : List ℕ) (p k : ℕ) (x : Item) → Laid t (length m) → p < t .size → x ≡ itemIn (wordAt t m p) → k ≡ runLength (x .event) (x .part) (drop (p + 1) (itemsIn t m))
+entries-first : (t : Places) (m : List ℕ) (p k : ℕ) (x : Item) → PlacesFit t (length m) → p < t .size → x ≡ itemIn (itemWordAt t m p) → k ≡ runLength (x .event) (x .part) (drop (p + 1) (itemsIn t m))
     → entriesOf (t .size - p) p (drop p (itemsIn t m))
     ≡ record { event = x .event; part = x .part; body = sequenceIn t m levels p (1 + k) } ∷ entriesOf (t .size - (p + (1 + k))) (p + (1 + k)) (drop (p + (1 + k)) (itemsIn t m))
 unfolding entriesOf sequenceIn
-entries-first t m p k x laid h is ek =
+entries-first t m p k x places h is ek =
     let n : t .size - p ≡ suc (t .size - p - 1) = omega arith in
     let one : 1 + k ≡ suc k = omega arith in
     let next : p + suc k ≡ p + 1 + k = omega arith in
     let ek′ : k ≡ runLength (x .event) (x .part) (drop (suc p) (itemsIn t m)) = rw (add-one p) at ek in
     let so : suc p + k ≡ p + 1 + k = omega arith in
-    let l : length (drop (p + 1 + k) (itemsIn t m)) ≡ t .size - (p + 1 + k) = simp (length-drop, items-length t m laid) in
-    rw (n, items-at t m p laid h, ← is, ← ek′, one, next)
+    let l : length (drop (p + 1 + k) (itemsIn t m)) ≡ t .size - (p + 1 + k) = simp (length-drop, items-count t m places) in
+    rw (n, items-from t m p places h, ← is, ← ek′, one, next)
     (ap (λ (es : List Entry). record { event = x .event; part = x .part; body = sequenceOf (suc k) levels p (x ∷ take k (drop (suc p) (itemsIn t m))) } ∷ es)
     (rw (drop-drop k (suc p) (itemsIn t m), so)
     (entries-enough (t .size - p - 1) (t .size - (p + 1 + k)) (p + 1 + k) (drop (p + 1 + k) (itemsIn t m)) (omega arith) (omega arith))))
 
-module _ (t : Tables) (m m′ : List ℕ) (p k : ℕ) (x : Item) (laid : Laid t (length m)) (inside : p < t .size) (is : x ≡ itemIn (getD m (t .items + p) 0)) where
+module _ (t : Places) (m m′ : List ℕ) (p k : ℕ) (x : Item) (places : PlacesFit t (length m)) (inside : p < t .size) (is : x ≡ itemIn (getD m (t .items + p) 0)) where
   pub advanced : k ≡ runLength (x .event) (x .part) (drop (p + 1) (itemsIn t m)) → p + 1 + k ≤ t .size → m′ ≡ sequenceDone t m levels p (1 + k) (x .event) → Advanced t m p (1 + k) m′
   unfolding owedFrom sequenceDone cues
   advanced ek fits em =
-      let is′ : x ≡ itemIn (wordAt t m p) = is ∙ ap itemIn (word-in t m p laid inside) in
+      let is′ : x ≡ itemIn (itemWordAt t m p) = is ∙ ap itemIn (word-in t m p places inside) in
       record {
         some = omega arith;
         within = omega arith;
         same =
-            rw (same-reading t _ m m′ em, same-items t _ m m′ em, entries-first t m p k x laid inside is′ ek, write-append, write-cast, ← em);
+            rw (reading-kept t _ m m′ em, items-kept t _ m m′ em, entries-first t m p k x places inside is′ ek, write-append, write-cast, ← em);
       }
 
-pub lent-run : (t : Tables) (m : List ℕ) (p k : ℕ) → Laid t (length m) → p + 1 + k ≤ t .size → Lent t m p (1 + k)
-lent-run t m p k laid fits = record { laid = laid; fits = omega arith }
+pub lent-run : (t : Places) (m : List ℕ) (p k : ℕ) → PlacesFit t (length m) → p + 1 + k ≤ t .size → Lent t m p (1 + k)
+lent-run t m p k places fits = record { places = places; fits = omega arith }
 
-pub page-begins : (t : Tables) (m : List ℕ) → Laid t (length m) → owedFrom t m 0 ≡ performed t m
+pub page-begins : (t : Places) (m : List ℕ) → PlacesFit t (length m) → owedFrom t m 0 ≡ performed t m
 unfolding owedFrom performed entries
-page-begins t m laid =
+page-begins t m places =
     let e : t .size - 0 ≡ t .size = omega arith in
-    rw (e, items-length t m laid)
+    rw (e, items-count t m places)
 
-pub page-step : (t : Tables) (m m′ W : List ℕ) (p r : ℕ) → Advanced t m p r m′ → owedFrom t m p ≡ W → owedFrom t m′ (p + r) ≡ W
+pub page-step : (t : Places) (m m′ W : List ℕ) (p r : ℕ) → Advanced t m p r m′ → owedFrom t m p ≡ W → owedFrom t m′ (p + r) ≡ W
 page-step t m m′ W p r a q = a .same ∙ q
 
-pub page-ends : (t : Tables) (m W : List ℕ) (p : ℕ) → t .size ≤ p → owedFrom t m p ≡ W → m ≡ W
+pub page-ends : (t : Places) (m W : List ℕ) (p : ℕ) → t .size ≤ p → owedFrom t m p ≡ W → m ≡ W
 unfolding owedFrom entriesOf cues writeAll
 page-ends t m W p h q =
     let e : t .size - p ≡ 0 = omega arith in
     rw e at q
 
-pub laid-same : (t : Tables) (n k : ℕ) → Laid t n → k ≡ n → Laid t k
-laid-same t n k laid e = rw e laid
+pub places-same : (t : Places) (n k : ℕ) → PlacesFit t n → k ≡ n → PlacesFit t k
+places-same t n k places e = rw e places
 
 pub ruleset runs = (advanced, lent-run, needs)
 
-pub ruleset pages = (page-begins, page-step, page-ends, laid-same, needs)
+pub ruleset pages = (page-begins, page-step, page-ends, places-same, needs)

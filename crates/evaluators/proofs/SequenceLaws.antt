@@ -14,10 +14,11 @@ use Rattle.page.specs.declared.Item.{Item}
 use Rattle.rules.specs.Words.{synchronyOf, errorOf}
 use Rattle.rules.specs.Score.{Seq, end, action, group}
 use Rattle.rules.specs.Page.{sequenceOf}
-use Rattle.evaluators.specs.declared.Tables.{Tables}
-use Rattle.evaluators.specs.Fields.{itemIn}
-use Rattle.evaluators.specs.Tables.{Laid, read, itemsIn}
-use Rattle.evaluators.specs.Inner.{wordAt, Lent, sequenceIn}
+use Rattle.rules.proofs.Places.{sequence-empty}
+use Rattle.fates.specs.declared.Places.{Places}
+use Rattle.fates.specs.Fields.{itemIn}
+use Rattle.fates.specs.Places.{PlacesFit, read, itemsIn}
+use Rattle.evaluators.specs.Inner.{itemWordAt, Lent, sequenceIn}
 
 -- ---- lists
 
@@ -34,11 +35,6 @@ take-min (suc a) (suc b) [] = let e : min (suc a) (suc b) ≡ suc (min a b) = om
 take-min (suc a) (suc b) (x ∷ l) = let e : min (suc a) (suc b) ≡ suc (min a b) = omega arith in rw e (ap (λ (k : List _). x ∷ k) (take-min a b l))
 
 -- ---- any bound that is enough gives the same
-
-pub sequence-empty : (n v p : ℕ) → sequenceOf n v p [] ≡ end
-unfolding sequenceOf
-sequence-empty zero v p = refl
-sequence-empty (suc n) v p = refl
 
 pub sequence-enough : (n k v p : ℕ) (is : List Item) → length is ≤ n → length is ≤ k → sequenceOf n v p is ≡ sequenceOf k v p is
 unfolding sequenceOf
@@ -79,30 +75,30 @@ module _ (c last n : ℕ) (is : List Item) (en : n ≡ min last c) where
 
 -- ---- the first of count items from page place p on
 
-pub items-length : (t : Tables) (m : List ℕ) → Laid t (length m) → length (itemsIn t m) ≡ t .size
+pub items-count : (t : Places) (m : List ℕ) → PlacesFit t (length m) → length (itemsIn t m) ≡ t .size
 unfolding itemsIn
-items-length t m laid = simp (length-map, length-take, length-drop) (omega arith)
+items-count t m places = simp (length-map, length-take, length-drop) (omega arith)
 
-pub items-at : (t : Tables) (m : List ℕ) (p : ℕ) → Laid t (length m) → p < t .size → drop p (itemsIn t m) ≡ itemIn (wordAt t m p) ∷ drop (suc p) (itemsIn t m)
-unfolding itemsIn wordAt
-items-at t m p laid h =
-    drop-cons (itemsIn t m) p (itemIn 0) (rw items-length h)
+pub items-from : (t : Places) (m : List ℕ) (p : ℕ) → PlacesFit t (length m) → p < t .size → drop p (itemsIn t m) ≡ itemIn (itemWordAt t m p) ∷ drop (suc p) (itemsIn t m)
+unfolding itemsIn itemWordAt
+items-from t m p places h =
+    drop-cons (itemsIn t m) p (itemIn 0) (rw items-count h)
     ∙ ap (λ (i : Item). i ∷ drop (suc p) (itemsIn t m))
     (List·getD-map itemIn (take (t .size) (drop (t .items) (read t m))) p 0
     ∙ ap itemIn (getD-take (t .size) (drop (t .items) (read t m)) p 0 h ∙ getD-drop (t .items) (read t m) p 0))
 
 -- a group's body, of which nothing is read where no level is left
-unfoldable pub bodyIn : Tables → List ℕ → (levels p count : ℕ) → Seq
+unfoldable pub bodyIn : Places → List ℕ → (levels p count : ℕ) → Seq
 bodyIn t m zero p count = end
 bodyIn t m (suc v) p count = sequenceIn t m v p count
 
-body-read : (t : Tables) (m : List ℕ) (v p c last n : ℕ) → n ≡ min last c
+body-read : (t : Places) (m : List ℕ) (v p c last n : ℕ) → n ≡ min last c
     → elim v [ zero ↦ end | suc u ↦ sequenceOf c u (p + 1) (take last (take c (drop (suc p) (itemsIn t m)))) ] ≡ bodyIn t m v (p + 1) n
 unfolding bodyIn sequenceIn
 body-read t m zero p c last n en = refl
 body-read t m (suc u) p c last n en = rw (← add-one p) (within-read c last n (drop (p + 1) (itemsIn t m)) en u (p + 1))
 
-rest-read : (t : Tables) (m : List ℕ) (v p c last n : ℕ) → n ≡ min last c
+rest-read : (t : Places) (m : List ℕ) (v p c last n : ℕ) → n ≡ min last c
     → sequenceOf c v (p + 1 + last) (drop last (take c (drop (suc p) (itemsIn t m)))) ≡ sequenceIn t m v (p + (n + 1)) (suc c - (n + 1))
 unfolding sequenceIn
 rest-read t m v p c last n en =
@@ -111,16 +107,16 @@ rest-read t m v p c last n en =
     let d : suc p + n ≡ p + 1 + n = omega arith in
     after-read c last n (drop (suc p) (itemsIn t m)) en v (p + 1) ∙ rw (drop-drop n (suc p) (itemsIn t m), e, r, d)
 
-pub sequence-none : (t : Tables) (m : List ℕ) (v p count : ℕ) → count ≤ 0 → sequenceIn t m v p count ≡ end
+pub sequence-none : (t : Places) (m : List ℕ) (v p count : ℕ) → count ≤ 0 → sequenceIn t m v p count ≡ end
 unfolding sequenceIn sequenceOf
 sequence-none t m v p zero h = refl
 sequence-none t m v p (suc c) h = absurd (omega arith)
 
-module _ (t : Tables) (m : List ℕ) (v p count : ℕ) (lent : Lent t m p count) (some : 0 < count) (x : Item) (is : x ≡ itemIn (wordAt t m p)) where
+module _ (t : Places) (m : List ℕ) (v p count : ℕ) (lent : Lent t m p count) (some : 0 < count) (x : Item) (is : x ≡ itemIn (itemWordAt t m p)) where
   -- what is left begins with the item
   left-cons : (c : ℕ) → count ≡ suc c → sequenceIn t m v p count ≡ sequenceOf (suc c) v p (x ∷ take c (drop (suc p) (itemsIn t m)))
   unfolding sequenceIn
-  left-cons c e = rw (e, items-at t m p (lent .laid) (omega arith), ← is)
+  left-cons c e = rw (e, items-from t m p (lent .places) (omega arith), ← is)
 
   pub sequence-action : x .kind ≡ 0 → sequenceIn t m v p count ≡ action (x .delay .0) (x .last) p (sequenceIn t m v (p + 1) (count - 1))
   unfolding sequenceIn sequenceOf

@@ -2,7 +2,7 @@
 -- Assumes nothing.
 use mathlib.Core.Path.{_≡_, refl, sym, ap, _∙_}
 use mathlib.Core.Bool.{Bool, true, false}
-use mathlib.Core.List.{List, _∷_, _++_}
+use mathlib.Core.List.{List, _++_}
 use Prim.Native.Nat.{ℕ, zero, suc, _+_, _-_, _^_, _≤_, _<_, min}
 use native.Mathlib.Omega.{arith}
 use lib.Dec.{eqb}
@@ -19,29 +19,30 @@ use Rattle.rules.specs.declared.ErrorWord.the-variants.{Local as local}
 use Rattle.rules.specs.declared.Fate.{Fate}
 use Rattle.rules.specs.declared.Fate.the-variants.{HeardAt as heardAt, MissedBy as missedBy, GroupsOnly as groupsOnly, Nothing as nothing, NotYet as notYet}
 use Rattle.rules.specs.Words.{synchronyOf, errorOf}
-use Rattle.rules.specs.Score.{Seq, end, action, group}
-use Rattle.rules.specs.Rules.{Reading, grains, missedFate, heardFate, Holder, heardGroup, missedGroup, missedTop, silent, waiting, fateOf, dropped, undecided, outcomeOf, enter, Line, line, run}
-use Rattle.evaluators.specs.declared.Tables.{Tables}
-use Rattle.evaluators.specs.Fields.{itemIn, outcomeWord}
-use Rattle.evaluators.specs.Tables.{readingIn}
-use Rattle.evaluators.specs.Inner.{eventOf, dateOf, Bounded, latestAt, wordAt, Lent, Dated, sequenceIn, spanOf, writeLines, owed, first, Stepped, still}
-use Rattle.evaluators.proofs.OutcomeLaws.{heard-event, heard-date, missed-event, missed-date, groups-event, groups-date}
+use Rattle.rules.specs.Rules.{Reading, grains, missedFate, heardFate, Holder, heardGroup, missedGroup, missedTop, silent, waiting, fateOf, outcomeOf, enter, Line, run}
+use Rattle.rules.proofs.Sift.{run-alike}
+use Rattle.fates.specs.declared.Places.{Places}
+use Rattle.fates.specs.Fields.{itemIn, outcomeWord}
+use Rattle.fates.specs.Places.{readingIn}
+use Rattle.fates.specs.Fates.{eventOf, dateOf, FateBounded}
+use Rattle.evaluators.specs.Inner.{latestAt, itemWordAt, Lent, Dated, sequenceIn, spanOf, writeLines, owed, firstLines, Stepped, still}
+use Rattle.fates.proofs.OutcomeLaws.{heard-event, heard-date, missed-event, missed-date, groups-event, groups-date}
 use Rattle.evaluators.proofs.SequenceLaws.{bodyIn, sequence-none, sequence-action, sequence-group}
-use Rattle.evaluators.proofs.FrameLaws.{writes-append, same-reading, same-sequence, writes-length, word-read}
+use Rattle.evaluators.proofs.FrameLaws.{writes-append, reading-kept, sequence-kept, writes-length, word-read}
 
 -- ---- a body, item by item
 
 -- the first item, and what follows it
-run-first : (t : Tables) (m : List ℕ) (h : Holder) (s v p count : ℕ) (x : Item) (r : ℕ) → Lent t m p count → 0 < count → x ≡ itemIn (wordAt t m p) → r ≡ spanOf x count
+run-first : (t : Places) (m : List ℕ) (h : Holder) (s v p count : ℕ) (x : Item) (r : ℕ) → Lent t m p count → 0 < count → x ≡ itemIn (itemWordAt t m p) → r ≡ spanOf x count
     → run (readingIn t m) h s (sequenceIn t m v p count)
-    ≡ first (readingIn t m) (fateOf (readingIn t m) h (s + x .delay .0)) (sequenceIn t m v p count)
+    ≡ firstLines (readingIn t m) (fateOf (readingIn t m) h (s + x .delay .0)) (sequenceIn t m v p count)
     ++ run (readingIn t m) h (s + x .delay .0) (sequenceIn t m v (p + r) (count - r))
-unfolding run first spanOf pick
+unfolding run firstLines spanOf pick
 run-first t m h s v p count x r lent some is er = go (eqb (x .kind) 0) refl
   where
     go : (b : Bool) → eqb (x .kind) 0 ≡ b
         → run (readingIn t m) h s (sequenceIn t m v p count)
-        ≡ first (readingIn t m) (fateOf (readingIn t m) h (s + x .delay .0)) (sequenceIn t m v p count)
+        ≡ firstLines (readingIn t m) (fateOf (readingIn t m) h (s + x .delay .0)) (sequenceIn t m v p count)
         ++ run (readingIn t m) h (s + x .delay .0) (sequenceIn t m v (p + r) (count - r))
     go true b =
         let q : r ≡ 1 = rw b at er in
@@ -50,15 +51,15 @@ run-first t m h s v p count x r lent some is er = go (eqb (x .kind) 0) refl
         let q : r ≡ min (x .last) (count - 1) + 1 = rw b at er in
         rw (q, sequence-group t m v p count lent some x is (min (x .last) (count - 1)) (eqb-false _ 0 b) refl)
 
-module _ (t : Tables) (m m′ W : List ℕ) (s v p count r : ℕ) (d : Grains) (f : Fate) (lent : Lent t m p count) (some : 0 < count) (is : d ≡ itemIn (getD m (t .items + p) 0) .delay) (did : Stepped t f m v p count r m′) where
+module _ (t : Places) (m m′ W : List ℕ) (s v p count r : ℕ) (d : Grains) (f : Fate) (lent : Lent t m p count) (some : 0 < count) (is : d ≡ itemIn (getD m (t .items + p) 0) .delay) (did : Stepped t f m v p count r m′) where
   -- what is owed after an item is what was owed before it
   step : (h : Holder) → f ≡ fateOf (readingIn t m) h (s + d .0) → owed t h s m v p count ≡ W → owed t h (s + d .0) m′ v (p + r) (count - r) ≡ W
   unfolding owed
   step h ef q =
-      let e : d ≡ itemIn (wordAt t m p) .delay = is ∙ ap (λ (w : ℕ). itemIn w .delay) (word-read t m p count lent some) in
-      rw (same-reading t _ m m′ (did .words), same-sequence t _ m m′ (did .words), did .words, ef, e)
+      let e : d ≡ itemIn (itemWordAt t m p) .delay = is ∙ ap (λ (w : ℕ). itemIn w .delay) (word-read t m p count lent some) in
+      rw (reading-kept t _ m m′ (did .words), sequence-kept t _ m m′ (did .words), did .words, ef, e)
       (sym (writes-append (t .outcomes) _ _ m)
-      ∙ ap (λ (l : List Line). writeLines (t .outcomes) l m) (sym (run-first t m h s v p count (itemIn (wordAt t m p)) r lent some refl (did .span)))
+      ∙ ap (λ (l : List Line). writeLines (t .outcomes) l m) (sym (run-first t m h s v p count (itemIn (itemWordAt t m p)) r lent some refl (did .span)))
       ∙ q)
 
   pub missed-step : (y : Synchrony) (e : ErrorWord) (j b : ℕ) → f ≡ missedFate (readingIn t m) e j b (s + d .0) (heardFate (readingIn t m) y e j)
@@ -68,7 +69,7 @@ module _ (t : Tables) (m m′ W : List ℕ) (s v p count r : ℕ) (d : Grains) (
   missed-step y e j b ef q = step (missedGroup y e j b) ef q
 
 -- the same of a walk that keeps the date of the item, and not what is past of it since its holder's
-module _ (t : Tables) (m m′ W : List ℕ) (b date v p count r : ℕ) (d : Grains) (f : Fate) (late : b ≤ date) (lent : Lent t m p count) (some : 0 < count) (is : d ≡ itemIn (getD m (t .items + p) 0) .delay) (did : Stepped t f m v p count r m′) where
+module _ (t : Places) (m m′ W : List ℕ) (b date v p count r : ℕ) (d : Grains) (f : Fate) (late : b ≤ date) (lent : Lent t m p count) (some : 0 < count) (is : d ≡ itemIn (getD m (t .items + p) 0) .delay) (did : Stepped t f m v p count r m′) where
   pub heard-step : (y : Synchrony) (e : ErrorWord) (i : ℕ) → f ≡ heardFate (readingIn t m) y e i (date + d .0)
       → owed t (heardGroup y e i b) (date - b) m v p count ≡ W
       → owed t (heardGroup y e i b) (date + d .0 - b) m′ v (p + r) (count - r) ≡ W
@@ -88,29 +89,17 @@ module _ (t : Tables) (m m′ W : List ℕ) (b date v p count r : ℕ) (d : Grai
       rw back at (step t m m′ W (date - b) v p count r d f lent some is did (missedTop j b) (rw on ef) q)
 
 -- such a walk begins at its holder's date
-pub walk-begins : (t : Tables) (h : Holder) (b : ℕ) (m : List ℕ) (v p count : ℕ) → owed t h (b - b) m v p count ≡ owed t h 0 m v p count
+pub walk-begins : (t : Places) (h : Holder) (b : ℕ) (m : List ℕ) (v p count : ℕ) → owed t h (b - b) m v p count ≡ owed t h 0 m v p count
 walk-begins t h b m v p count = let z : b - b ≡ 0 = omega arith in rw z
 
 -- where nothing is played, no date counts
-silent-any : (R : Reading) (s k : ℕ) (x : Seq) → run R silent s x ≡ run R silent k x
-unfolding run fateOf enter outcomeOf
-silent-any R s k end = refl
-silent-any R s k (action d a p rest) = ap (λ (l : List Line). line p a dropped ∷ l) (silent-any R (s + d) (k + d) rest)
-silent-any R s k (group d y e body rest) = ap (λ (l : List Line). run R silent 0 body ++ l) (silent-any R (s + d) (k + d) rest)
-
-waiting-any : (R : Reading) (s k : ℕ) (x : Seq) → run R waiting s x ≡ run R waiting k x
-unfolding run fateOf enter outcomeOf
-waiting-any R s k end = refl
-waiting-any R s k (action d a p rest) = ap (λ (l : List Line). line p a undecided ∷ l) (waiting-any R (s + d) (k + d) rest)
-waiting-any R s k (group d y e body rest) = ap (λ (l : List Line). run R waiting 0 body ++ l) (waiting-any R (s + d) (k + d) rest)
-
-still-any : (t : Tables) (f : Fate) (s k : ℕ) (m : List ℕ) (v p count : ℕ) → still f ≡ true → owed t (enter f loose local) s m v p count ≡ owed t (enter f loose local) k m v p count
-unfolding still enter owed
+still-any : (t : Places) (f : Fate) (s k : ℕ) (m : List ℕ) (v p count : ℕ) → still f ≡ true → owed t (enter f loose local) s m v p count ≡ owed t (enter f loose local) k m v p count
+unfolding still enter owed fateOf
 still-any t (heardAt i d) s k m v p count h = let z : _≡_ {A = ℕ} 0 1 = cc in absurd (omega arith)
 still-any t (missedBy j d) s k m v p count h = let z : _≡_ {A = ℕ} 0 1 = cc in absurd (omega arith)
 still-any t (groupsOnly j d) s k m v p count h = let z : _≡_ {A = ℕ} 0 1 = cc in absurd (omega arith)
-still-any t nothing s k m v p count h = ap (λ (l : List Line). writeLines (t .outcomes) l m) (silent-any (readingIn t m) s k (sequenceIn t m v p count))
-still-any t notYet s k m v p count h = ap (λ (l : List Line). writeLines (t .outcomes) l m) (waiting-any (readingIn t m) s k (sequenceIn t m v p count))
+still-any t nothing s k m v p count h = ap (λ (l : List Line). writeLines (t .outcomes) l m) (run-alike (readingIn t m) silent silent s k (sequenceIn t m v p count) (λ n. refl))
+still-any t notYet s k m v p count h = ap (λ (l : List Line). writeLines (t .outcomes) l m) (run-alike (readingIn t m) waiting waiting s k (sequenceIn t m v p count) (λ n. refl))
 
 still-same : (R : Reading) (f : Fate) (s : ℕ) → still f ≡ true → f ≡ fateOf R (enter f loose local) s
 unfolding still enter fateOf
@@ -120,7 +109,7 @@ still-same R (groupsOnly j d) s h = let z : _≡_ {A = ℕ} 0 1 = cc in absurd (
 still-same R nothing s h = refl
 still-same R notYet s h = refl
 
-pub still-step : (t : Tables) (m m′ W : List ℕ) (v p count r : ℕ) (f : Fate) → Lent t m p count → 0 < count → Stepped t f m v p count r m′ → still f ≡ true
+pub still-step : (t : Places) (m m′ W : List ℕ) (v p count r : ℕ) (f : Fate) → Lent t m p count → 0 < count → Stepped t f m v p count r m′ → still f ≡ true
     → owed t (enter f loose local) 0 m v p count ≡ W
     → owed t (enter f loose local) 0 m′ v (p + r) (count - r) ≡ W
 still-step t m m′ W v p count r f lent some did h q =
@@ -128,23 +117,23 @@ still-step t m m′ W v p count r f lent some did h q =
     still-any t f 0 (0 + d .0) m′ v (p + r) (count - r) h
     ∙ step t m m′ W 0 v p count r d f lent some refl did (enter f loose local) (still-same (readingIn t m) f (0 + d .0) h) q
 
-pub walk-none : (t : Tables) (h : Holder) (s : ℕ) (m W : List ℕ) (v p count : ℕ) → count ≤ 0 → owed t h s m v p count ≡ W → m ≡ W
+pub walk-ends : (t : Places) (h : Holder) (s : ℕ) (m W : List ℕ) (v p count : ℕ) → count ≤ 0 → owed t h s m v p count ≡ W → m ≡ W
 unfolding owed run writeLines
-walk-none t h s m W v p count z q = rw (sequence-none t m v p count z) at q
+walk-ends t h s m W v p count z q = rw (sequence-none t m v p count z) at q
 
 -- ---- one item
 
-body-entered : (t : Tables) (m : List ℕ) (v p n : ℕ) → (v ≡ 0 → ⊥) → bodyIn t m v p n ≡ sequenceIn t m (v - 1) p n
+body-entered : (t : Places) (m : List ℕ) (v p n : ℕ) → (v ≡ 0 → ⊥) → bodyIn t m v p n ≡ sequenceIn t m (v - 1) p n
 unfolding bodyIn
 body-entered t m zero p n h = absurd (h refl)
 body-entered t m (suc v) p n h = let e : suc v - 1 ≡ v = omega arith in rw e
 
-module _ (t : Tables) (m m′ : List ℕ) (f : Fate) (v p count w : ℕ) (x : Item) (lent : Lent t m p count) (some : 0 < count) (ew : w ≡ wordAt t m p) (is : x ≡ itemIn w) where
-  the-word : x ≡ itemIn (wordAt t m p)
+module _ (t : Places) (m m′ : List ℕ) (f : Fate) (v p count w : ℕ) (x : Item) (lent : Lent t m p count) (some : 0 < count) (ew : w ≡ itemWordAt t m p) (is : x ≡ itemIn w) where
+  the-word : x ≡ itemIn (itemWordAt t m p)
   the-word = is ∙ ap itemIn ew
 
   pub item-action : x .kind ≡ 0 → m′ ≡ set m (t .outcomes + p) (outcomeWord (outcomeOf (readingIn t m) f)) → Stepped t f m v p count 1 m′
-  unfolding first writeLines spanOf pick
+  unfolding firstLines writeLines spanOf pick
   item-action k em =
       record {
         some = omega arith;
@@ -154,12 +143,12 @@ module _ (t : Tables) (m m′ : List ℕ) (f : Fate) (v p count w : ℕ) (x : It
       }
 
   module _ (n : ℕ) (k : x .kind ≡ 0 → ⊥) (en : n ≡ min (x .last) (count - 1)) where
-    group-span : n + 1 ≡ spanOf (itemIn (wordAt t m p)) count
+    group-span : n + 1 ≡ spanOf (itemIn (itemWordAt t m p)) count
     unfolding spanOf pick
     group-span = rw (← the-word, ne-eqb (x .kind) 0 k, en)
 
     pub item-deep : v ≡ 0 → Stepped t f m v p count (n + 1) m
-    unfolding first run writeLines bodyIn
+    unfolding firstLines run writeLines bodyIn
     item-deep z =
         record {
           some = omega arith;
@@ -170,7 +159,7 @@ module _ (t : Tables) (m m′ : List ℕ) (f : Fate) (v p count w : ℕ) (x : It
 
     module _ (y : Synchrony) (e : ErrorWord) (ey : y ≡ synchronyOf (x .synchrony)) (ee : e ≡ errorOf (x .error)) (enters : v ≡ 0 → ⊥) where
       pub item-group : m′ ≡ owed t (enter f y e) 0 m (v - 1) (p + 1) n → Stepped t f m v p count (n + 1) m′
-      unfolding first owed
+      unfolding firstLines owed
       item-group em =
           record {
             some = omega arith;
@@ -181,7 +170,7 @@ module _ (t : Tables) (m m′ : List ℕ) (f : Fate) (v p count w : ℕ) (x : It
 
 -- ---- a group's body, by the group's fate
 
-module _ (t : Tables) (m m′ : List ℕ) (f : Fate) (v p count : ℕ) (y : Synchrony) (e : ErrorWord) where
+module _ (t : Places) (m m′ : List ℕ) (f : Fate) (v p count : ℕ) (y : Synchrony) (e : ErrorWord) where
   pub within-heard : (i : ℕ) (d : Grains) → f ≡ heardAt i d → m′ ≡ owed t (heardGroup y e i (d .0)) 0 m v p count → m′ ≡ owed t (enter f y e) 0 m v p count
   unfolding enter
   within-heard i d q em = rw q em
@@ -212,25 +201,25 @@ still-waiting f q = rw q
 
 -- ---- what is lent, and bounds
 
-pub lent-on : (t : Tables) (m m′ : List ℕ) (f : Fate) (v p count r : ℕ) → Lent t m p count → Stepped t f m v p count r m′ → Lent t m′ (p + r) (count - r)
+pub lent-on : (t : Places) (m m′ : List ℕ) (f : Fate) (v p count r : ℕ) → Lent t m p count → Stepped t f m v p count r m′ → Lent t m′ (p + r) (count - r)
 lent-on t m m′ f v p count r lent did =
     let e : length m′ ≡ length m = ap length (did .words) ∙ writes-length (t .outcomes) _ m in
-    record { laid = rw e (lent .laid); fits = omega arith }
+    record { places = rw e (lent .places); fits = omega arith }
 
-pub lent-within : (t : Tables) (m : List ℕ) (p count last n : ℕ) → Lent t m p count → 0 < count → n ≡ min last (count - 1) → Lent t m (p + 1) n
-lent-within t m p count last n lent some en = record { laid = lent .laid; fits = omega arith }
+pub lent-within : (t : Places) (m : List ℕ) (p count last n : ℕ) → Lent t m p count → 0 < count → n ≡ min last (count - 1) → Lent t m (p + 1) n
+lent-within t m p count last n lent some en = record { places = lent .places; fits = omega arith }
 
-pub heard-bounded : (f : Fate) (date d p : ℕ) → date ≤ latestAt p → d < 8388608 → Bounded f (date + d + 2 ^ 32) → Bounded f (latestAt (p + 1))
+pub heard-bounded : (f : Fate) (date d p : ℕ) → date ≤ latestAt p → d < 8388608 → FateBounded f (date + d + 2 ^ 32) → FateBounded f (latestAt (p + 1))
 heard-bounded f date d p early small h = record { event = h .event; date = omega arith }
 
-pub missed-bounded : (f : Fate) (b s d p : ℕ) → b + s ≤ latestAt p → d < 8388608 → Bounded f (b + (s + d) + 2 ^ 31 + 2 ^ 32) → Bounded f (latestAt (p + 1))
+pub missed-bounded : (f : Fate) (b s d p : ℕ) → b + s ≤ latestAt p → d < 8388608 → FateBounded f (b + (s + d) + 2 ^ 31 + 2 ^ 32) → FateBounded f (latestAt (p + 1))
 missed-bounded f b s d p early small h = record { event = h .event; date = omega arith }
 
-pub top-bounded : (j date d p : ℕ) → date ≤ latestAt p → d < 8388608 → j ≤ 256 → Bounded (missedBy j (grains (date + d))) (latestAt (p + 1))
+pub top-bounded : (j date d p : ℕ) → date ≤ latestAt p → d < 8388608 → j ≤ 256 → FateBounded (missedBy j (grains (date + d))) (latestAt (p + 1))
 unfolding eventOf dateOf
 top-bounded j date d p early small few = record { event = few; date = omega arith }
 
-pub still-bounded : (f : Fate) (n : ℕ) → still f ≡ true → Bounded f n
+pub still-bounded : (f : Fate) (n : ℕ) → still f ≡ true → FateBounded f n
 unfolding still eventOf dateOf
 still-bounded (heardAt i d) n h = let z : _≡_ {A = ℕ} 0 1 = cc in absurd (omega arith)
 still-bounded (missedBy j d) n h = let z : _≡_ {A = ℕ} 0 1 = cc in absurd (omega arith)
@@ -238,14 +227,14 @@ still-bounded (groupsOnly j d) n h = let z : _≡_ {A = ℕ} 0 1 = cc in absurd 
 still-bounded nothing n h = record { event = omega arith; date = omega arith }
 still-bounded notYet n h = record { event = omega arith; date = omega arith }
 
-pub word-bounded : (t : Tables) (m : List ℕ) (f : Fate) (p count : ℕ) → Lent t m p count → 0 < count → Bounded f (latestAt (p + 1)) → Bounded f (2 ^ 50)
-word-bounded t m f p count lent some h = record { event = h .event; date = omega (arith, lent .laid .page) }
+pub word-bounded : (t : Places) (m : List ℕ) (f : Fate) (p count : ℕ) → Lent t m p count → 0 < count → FateBounded f (latestAt (p + 1)) → FateBounded f (2 ^ 50)
+word-bounded t m f p count lent some h = record { event = h .event; date = omega (arith, lent .places .page) }
 
-pub place-inside : (t : Tables) (m : List ℕ) (p count : ℕ) → Lent t m p count → 0 < count → p < t .size
+pub place-inside : (t : Places) (m : List ℕ) (p count : ℕ) → Lent t m p count → 0 < count → p < t .size
 place-inside t m p count lent some = omega arith
 
 -- the date of a fate that is known
-module _ (f : Fate) (p j : ℕ) (d : Grains) (b : Bounded f (latestAt p)) where
+module _ (f : Fate) (p j : ℕ) (d : Grains) (b : FateBounded f (latestAt p)) where
   pub dated-heard : f ≡ heardAt j d → Dated j (d .0) p
   dated-heard e = record { event = heard-event f (latestAt p) j d b e; date = heard-date f (latestAt p) j d b e }
 
@@ -255,7 +244,7 @@ module _ (f : Fate) (p j : ℕ) (d : Grains) (b : Bounded f (latestAt p)) where
   pub dated-groups : f ≡ groupsOnly j d → Dated j (d .0) p
   dated-groups e = record { event = groups-event f (latestAt p) j d b e; date = groups-date f (latestAt p) j d b e }
 
-pub ruleset bodies = (walk-begins, walk-none, heard-step, missed-step, top-step, still-step, word-read, lent-on, heard-bounded, missed-bounded, top-bounded, still-bounded, needs)
+pub ruleset bodies = (walk-begins, walk-ends, heard-step, missed-step, top-step, still-step, word-read, lent-on, heard-bounded, missed-bounded, top-bounded, still-bounded, needs)
 
 pub ruleset items = (item-action, item-deep, item-group, word-bounded, place-inside, lent-within, needs)
 

@@ -7,42 +7,17 @@ use lib.Dec.{eqb}
 use lib.ListN.{length, getD, set, take, drop}
 use Rattle.page.specs.declared.Item.{Item}
 use Rattle.base.specs.Tests.{pick}
-use Rattle.rules.specs.declared.Taken.{Taken}
-use Rattle.rules.specs.declared.Taken.the-variants.{Heard as heard, Missed as missed, Unsettled as unsettled}
 use Rattle.rules.specs.declared.Fate.{Fate}
 use Rattle.rules.specs.declared.Fate.the-variants.{HeardAt as heardAt, MissedBy as missedBy, GroupsOnly as groupsOnly, Nothing as nothing, NotYet as notYet}
 use Rattle.rules.specs.Score.{Seq, end, action, group}
 use Rattle.rules.specs.Rules.{Reading, Holder, outcomeOf, enter, Line, line, run, perform}
 use Rattle.rules.specs.Page.{sequenceOf, entriesOf, cues}
-use Rattle.evaluators.specs.declared.Tables.{Tables}
-use Rattle.evaluators.specs.Fields.{itemIn, outcomeWord}
-use Rattle.evaluators.specs.Tables.{Laid, read, readingIn, itemsIn, writeAll}
+use Rattle.fates.specs.declared.Places.{Places}
+use Rattle.fates.specs.Fields.{itemIn, outcomeWord}
+use Rattle.fates.specs.Places.{PlacesFit, read, readingIn, itemsIn}
+use Rattle.evaluators.specs.Performed.{writeAll}
 
 -- ---- bounds
-
-unfoldable pub eventOf : Fate → ℕ
-eventOf (heardAt i t) = i
-eventOf (missedBy j t) = j
-eventOf (groupsOnly j t) = j
-eventOf nothing = 0
-eventOf notYet = 0
-
-unfoldable pub dateOf : Fate → ℕ
-dateOf (heardAt i t) = t .0
-dateOf (missedBy j t) = t .0
-dateOf (groupsOnly j t) = t .0
-dateOf nothing = 0
-dateOf notYet = 0
-
-unfoldable pub nextOf : Taken → ℕ
-nextOf heard = 0
-nextOf (missed j) = j
-nextOf unsettled = 0
-
--- A fate that the tables can be asked about, no later than a date.
-pub record Bounded (f : Fate) (latest : ℕ) : Type 0 where
-  pub event : eventOf f ≤ 256
-  pub date : dateOf f ≤ latest
 
 -- A date at a page place: each item that is passed moves it by less than 2 ^ 33 grains.
 abbrev pub latestAt : ℕ → ℕ
@@ -51,11 +26,11 @@ latestAt p = 8589934592 * (p + 1)
 -- ---- the items of a sequence
 
 -- The word of the item at a page place.
-unfoldable pub wordAt : Tables → List ℕ → ℕ → ℕ
-wordAt t m p = getD (read t m) (t .items + p) 0
+unfoldable pub itemWordAt : Places → List ℕ → ℕ → ℕ
+itemWordAt t m p = getD (read t m) (t .items + p) 0
 
 -- The count items from page place p on, as a sequence.
-unfoldable pub sequenceIn : Tables → List ℕ → (levels p count : ℕ) → Seq
+unfoldable pub sequenceIn : Places → List ℕ → (levels p count : ℕ) → Seq
 sequenceIn t m v p count = sequenceOf count v p (take count (drop p (itemsIn t m)))
 
 -- An item, with those within it, where count items are left: how many items that is.
@@ -67,18 +42,18 @@ writeLines b [] m = m
 writeLines b (line p a o ∷ l) m = writeLines b l (set m (b + p) (outcomeWord o))
 
 -- The words when the items that h holds have run, where s is the sum of the delays before them.
-unfoldable pub owed : Tables → Holder → ℕ → List ℕ → (levels p count : ℕ) → List ℕ
+unfoldable pub owed : Places → Holder → ℕ → List ℕ → (levels p count : ℕ) → List ℕ
 owed t h s m v p count = writeLines (t .outcomes) (run (readingIn t m) h s (sequenceIn t m v p count)) m
 
 -- What the first item of a sequence comes to, where its fate is f.
-unfoldable pub first : Reading → Fate → Seq → List Line
-first R f end = []
-first R f (action d a p rest) = line p a (outcomeOf R f) ∷ []
-first R f (group d y e body rest) = run R (enter f y e) 0 body
+unfoldable pub firstLines : Reading → Fate → Seq → List Line
+firstLines R f end = []
+firstLines R f (action d a p rest) = line p a (outcomeOf R f) ∷ []
+firstLines R f (group d y e body rest) = run R (enter f y e) 0 body
 
 -- What a walk over count items from page place p on is lent.
-pub record Lent (t : Tables) (m : List ℕ) (p count : ℕ) : Type 0 where
-  pub laid : Laid t (length m)
+pub record Lent (t : Places) (m : List ℕ) (p count : ℕ) : Type 0 where
+  pub places : PlacesFit t (length m)
   pub fits : p + count ≤ t .size
 
 -- A group that begins at page place p hangs on event i and starts at date d.
@@ -87,11 +62,11 @@ pub record Dated (i d p : ℕ) : Type 0 where
   pub date : d ≤ latestAt p
 
 -- The first of count items, of fate f, has run with all within it: r items.
-pub record Stepped (t : Tables) (f : Fate) (m : List ℕ) (levels p count r : ℕ) (m′ : List ℕ) : Type 0 where
+pub record Stepped (t : Places) (f : Fate) (m : List ℕ) (levels p count r : ℕ) (m′ : List ℕ) : Type 0 where
   pub some : 0 < r
   pub within : r ≤ count
-  pub span : r ≡ spanOf (itemIn (wordAt t m p)) count
-  pub words : m′ ≡ writeLines (t .outcomes) (first (readingIn t m) f (sequenceIn t m levels p count)) m
+  pub span : r ≡ spanOf (itemIn (itemWordAt t m p)) count
+  pub words : m′ ≡ writeLines (t .outcomes) (firstLines (readingIn t m) f (sequenceIn t m levels p count)) m
 
 -- A group of this fate yields nothing, ever or yet.
 unfoldable pub still : Fate → Bool
@@ -104,14 +79,14 @@ still notYet = true
 -- ---- the sequences of the page
 
 -- The words when a part's sequence at event i, count items from page place p on, has run.
-unfoldable pub sequenceDone : Tables → List ℕ → (levels p count i : ℕ) → List ℕ
+unfoldable pub sequenceDone : Places → List ℕ → (levels p count i : ℕ) → List ℕ
 sequenceDone t m v p count i = writeLines (t .outcomes) (perform (readingIn t m) i (sequenceIn t m v p count)) m
 
 -- The words when the page has run from place p on.
-unfoldable pub owedFrom : Tables → List ℕ → ℕ → List ℕ
+unfoldable pub owedFrom : Places → List ℕ → ℕ → List ℕ
 owedFrom t m p = writeAll (t .outcomes) (cues (readingIn t m) (entriesOf (t .size - p) p (drop p (itemsIn t m)))) m
 
-pub record Advanced (t : Tables) (m : List ℕ) (p r : ℕ) (m′ : List ℕ) : Type 0 where
+pub record Advanced (t : Places) (m : List ℕ) (p r : ℕ) (m′ : List ℕ) : Type 0 where
   pub some : 0 < r
   pub within : p + r ≤ t .size
   pub same : owedFrom t m′ (p + r) ≡ owedFrom t m p

@@ -1,4 +1,3 @@
--- A score and what was heard of it, as words; and what the evaluators leave in them.
-pub mod Fields
-pub mod Tables
+-- What the evaluators leave in words, and what their inner functions ask and leave.
+pub mod Performed
 pub mod Inner

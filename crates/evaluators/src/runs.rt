@@ -1,7 +1,7 @@
 // The sequences of the item table: "Each part has its own sequence at each event."
-use crate::Tables;
 use crate::walk;
-use crate::words;
+use fates::Places;
+use fates::words;
 use rules::ErrorWord;
 use rules::Fate;
 use rules::Synchrony;
@@ -12,8 +12,8 @@ ghost use Prim.Native.Nat.{_+_, _≤_, _<_};
 ghost use lib.ListN.{length, drop};
 ghost use Rattle.rules.specs.Rules.{missedTop};
 ghost use Rattle.rules.specs.Page.{levels, goesOn, runLength};
-ghost use Rattle.evaluators.specs.Fields.{itemIn};
-ghost use Rattle.evaluators.specs.Tables.{Laid, itemsIn};
+ghost use Rattle.fates.specs.Fields.{itemIn};
+ghost use Rattle.fates.specs.Places.{PlacesFit, itemsIn};
 ghost use Rattle.evaluators.specs.Inner.{Lent, Dated, owed, sequenceDone, Advanced};
 
 // "depth 8": groups are entered so many times, one within the other.
@@ -34,8 +34,8 @@ fn goes_on(w: u64, event: usize, part: usize) -> bool
 }
 
 // How many items from `at` on do, one after the other.
-fn run_length(mem: &[u64], t: Tables, at: usize, event: usize, part: usize) -> usize
-    requires { ⌜ Laid t (length (now mem)) × (at ≤ t .size) ⌝ }
+fn run_length(mem: &[u64], t: Places, at: usize, event: usize, part: usize) -> usize
+    requires { ⌜ PlacesFit t (length (now mem)) × (at ≤ t .size) ⌝ }
     ensures { λ r. ⌜ (r ≡ runLength event part (drop at (itemsIn t (now (mem .entry))))) × (at + r ≤ t .size) ⌝ }
 {
     let mut n: usize = 0;
@@ -51,7 +51,7 @@ fn run_length(mem: &[u64], t: Tables, at: usize, event: usize, part: usize) -> u
 }
 
 // The items of a part's sequence at an event that was missed, which is no group: j is the first event heard after.
-fn missed_top(mem: &mut [u64], t: Tables, at: usize, count: usize, j: usize, start: Grains)
+fn missed_top(mem: &mut [u64], t: Places, at: usize, count: usize, j: usize, start: Grains)
     requires { ⌜ Lent t (now mem) at count × Dated j (start .0) at ⌝ }
     ensures { λ _. ⌜ now (mem .exit) ≡ owed t (missedTop j (start .0)) 0 (now (mem .entry)) levels at count ⌝ }
 {
@@ -69,7 +69,7 @@ fn missed_top(mem: &mut [u64], t: Tables, at: usize, count: usize, j: usize, sta
 }
 
 // A part's sequence at event i: `count` items from `at` on.
-fn sequence(mem: &mut [u64], t: Tables, at: usize, count: usize, i: usize)
+fn sequence(mem: &mut [u64], t: Places, at: usize, count: usize, i: usize)
     requires { ⌜ Lent t (now mem) at count × (i ≤ 256) ⌝ }
     ensures { λ _. ⌜ now (mem .exit) ≡ sequenceDone t (now (mem .entry)) levels at count i ⌝ }
 {
@@ -93,8 +93,8 @@ fn sequence(mem: &mut [u64], t: Tables, at: usize, count: usize, i: usize)
 }
 
 // The sequence that begins at a place: how many items it has.
-pub fn perform_run(mem: &mut [u64], t: Tables, at: usize) -> usize
-    requires { ⌜ Laid t (length (now mem)) × (at < t .size) ⌝ }
+pub fn perform_run(mem: &mut [u64], t: Places, at: usize) -> usize
+    requires { ⌜ PlacesFit t (length (now mem)) × (at < t .size) ⌝ }
     ensures { λ r. ⌜ Advanced t (now (mem .entry)) at r (now (mem .exit)) ⌝ }
 {
     let from = t.items + at;

@@ -1,8 +1,8 @@
 // The items of a sequence, one after the other, and of the groups within it: heard and missed groups call on each other.
-use crate::Tables;
-use crate::fates;
-use crate::outcomes;
-use crate::words;
+use fates::Places;
+use fates::items;
+use fates::outcomes;
+use fates::words;
 use rules::ErrorWord;
 use rules::Fate;
 use rules::Synchrony;
@@ -11,7 +11,8 @@ ghost use mathlib.Core.Path.{_≡_};
 ghost use mathlib.Core.Bool.{true};
 ghost use Prim.Native.Nat.{_+_, _<_, min};
 ghost use Rattle.rules.specs.Rules.{heardGroup, missedGroup, enter};
-ghost use Rattle.evaluators.specs.Inner.{Bounded, latestAt, wordAt, Lent, Dated, owed, Stepped, still};
+ghost use Rattle.fates.specs.Fates.{FateBounded};
+ghost use Rattle.evaluators.specs.Inner.{latestAt, itemWordAt, Lent, Dated, owed, Stepped, still};
 
 // How many of the items that follow a group lie within it, where `left` follow it.
 fn extent(last: usize, left: usize) -> usize
@@ -23,14 +24,14 @@ fn extent(last: usize, left: usize) -> usize
 // One item whose fate is known, with all within it: how many items that is.
 pub fn item(
     mem: &mut [u64],
-    t: Tables,
+    t: Places,
     levels: usize,
     at: usize,
     count: usize,
     w: u64,
     f: Fate,
 ) -> usize
-    requires { ⌜ Lent t (now mem) at count × (0 < count) × (w ≡ wordAt t (now mem) at) × Bounded f (latestAt (at + 1)) ⌝ }
+    requires { ⌜ Lent t (now mem) at count × (0 < count) × (w ≡ itemWordAt t (now mem) at) × FateBounded f (latestAt (at + 1)) ⌝ }
     ensures { λ r. ⌜ Stepped t f (now (mem .entry)) levels at count r (now (mem .exit)) ⌝ }
 {
     let x = words::item_in(w);
@@ -52,7 +53,7 @@ pub fn item(
 // A group's body, by the group's fate: each of the two readings calls on the other through this.
 fn within(
     mem: &mut [u64],
-    t: Tables,
+    t: Places,
     levels: usize,
     at: usize,
     count: usize,
@@ -60,7 +61,7 @@ fn within(
     e: ErrorWord,
     f: Fate,
 )
-    requires { ⌜ Lent t (now mem) at count × Bounded f (latestAt at) ⌝ }
+    requires { ⌜ Lent t (now mem) at count × FateBounded f (latestAt at) ⌝ }
     ensures { λ _. ⌜ now (mem .exit) ≡ owed t (enter f y e) 0 (now (mem .entry)) levels at count ⌝ }
 {
     match f {
@@ -75,7 +76,7 @@ fn within(
 // The items of a group that is heard at event i and starts at `start`.
 pub fn heard_body(
     mem: &mut [u64],
-    t: Tables,
+    t: Places,
     levels: usize,
     at: usize,
     count: usize,
@@ -94,7 +95,7 @@ pub fn heard_body(
         let from = t.items + place;
         let w = mem[from];
         date = Grains(date.0 + words::delay_in(w).0);
-        let f = fates::heard_fate(mem, t, y, e, i, date);
+        let f = items::heard_fate(mem, t, y, e, i, date);
         let n = item(mem, t, levels, place, left, w, f);
         place += n;
         left -= n;
@@ -104,7 +105,7 @@ pub fn heard_body(
 // The items of a group that was missed and was to start at `start`: j is the first event heard after.
 pub fn missed_body(
     mem: &mut [u64],
-    t: Tables,
+    t: Places,
     levels: usize,
     at: usize,
     count: usize,
@@ -123,7 +124,7 @@ pub fn missed_body(
         let from = t.items + place;
         let w = mem[from];
         after = Grains(after.0 + words::delay_in(w).0);
-        let f = fates::missed_fate(mem, t, y, e, j, start, after);
+        let f = items::missed_fate(mem, t, y, e, j, start, after);
         let n = item(mem, t, levels, place, left, w, f);
         place += n;
         left -= n;
@@ -131,7 +132,7 @@ pub fn missed_body(
 }
 
 // The items of a group that yields nothing, ever or yet.
-pub fn still_body(mem: &mut [u64], t: Tables, levels: usize, at: usize, count: usize, f: Fate)
+pub fn still_body(mem: &mut [u64], t: Places, levels: usize, at: usize, count: usize, f: Fate)
     requires { ⌜ Lent t (now mem) at count × (still f ≡ true) ⌝ }
     ensures { λ _. ⌜ now (mem .exit) ≡ owed t (enter f Synchrony.Loose ErrorWord.Local) 0 (now (mem .entry)) levels at count ⌝ }
 {

@@ -7,13 +7,14 @@ use mathlib.Core.List.{List, [], _++_, append-nil}
 use native.Mathlib.Omega.{arith}
 use native.Mathlib.Nat.{add-zero, zero-add}
 use lib.Dec.{leb, eqb}
-use borrow.Author.Tests.{ltb-false, leb-true, leb-false, le-leb, lt-leb, eqb-true, eqb-false, ne-eqb, le-ltb, not-true}
+use borrow.Author.Tests.{leb-true, leb-false, le-leb, lt-leb, eqb-true, eqb-false, ne-eqb, not-true}
 use Rattle.base.specs.Tests.{pick}
 use Rattle.rules.specs.Words.{Synchrony, loose, tight, ErrorWord, local, global, partial, causal}
 use Rattle.rules.specs.Score.{Seq, end, action, group}
 use Rattle.rules.specs.Heard.{Taken, heard, missed, unsettled}
-use Rattle.rules.specs.Rules.{Reading, Fate, missedBy, groupsOnly, grains, past, globalStart, missedFate, loosely, slicedFate, heardFate, Holder, heardGroup, missedGroup, missedTop, silent, waiting, fateOf, outcomeOf, enter, Line, run, top, perform, Triple, triples, keep}
-use Rattle.rules.specs.Groups.{pastItems, pastGroups, future, futureItems, goesTo, slice, slices, Orderly}
+use Rattle.rules.specs.Rules.{Reading, Fate, missedBy, groupsOnly, nothing, grains, past, futureDate, globalStart, missedFate, loosely, slicedFate, heardFate, Holder, heardGroup, missedGroup, missedTop, silent, waiting, fateOf, outcomeOf, enter, Line, run, topHolder, perform, Triple, triples, keep}
+use Rattle.rules.specs.Groups.{ownDate, pastItems, pastGroups, future, futureItems, goesTo, slice, slices, Orderly}
+use Rattle.rules.proofs.PastLaws.{past-first, future-from, future-rises}
 use Rattle.rules.proofs.Sift.{all, run-alike, sift, sift-all, sift-select, sift-same, sift-tests, sift-groups, sift-none, Splits, sift-split, triples-append, sift-dropped}
 
 -- ---- one rule for the whole body
@@ -25,8 +26,8 @@ held y e i b (missed j) = missedGroup y e j b
 held y e i b unsettled = waiting
 
 module _ (R : Reading) where
-  enter-top : (y : Synchrony) (e : ErrorWord) (i d : ℕ) (a : Taken) → enter (fateOf R (top R i a) d) y e ≡ held y e i (R .start i + d) a
-  unfolding enter fateOf top held heardFate
+  enter-top : (y : Synchrony) (e : ErrorWord) (i d : ℕ) (a : Taken) → enter (fateOf R (topHolder R i a) d) y e ≡ held y e i (R .start i + d) a
+  unfolding enter fateOf topHolder held heardFate
   enter-top y e i d heard = refl
   enter-top y e i d (missed j) = refl
   enter-top y e i d unsettled = refl
@@ -34,7 +35,7 @@ module _ (R : Reading) where
   pub perform-group : (i d : ℕ) (y : Synchrony) (e : ErrorWord) (x : Seq) → perform R i (group d y e x end) ≡ run R (held y e i (R .start i + d) (R .became i)) 0 x
   unfolding perform run
   perform-group i d y e x =
-      append-nil _ ∙ ap (λ (h : Holder). run R h 0 x) (ap (λ (z : ℕ). enter (fateOf R (top R i (R .became i)) z) y e) (zero-add d) ∙ enter-top y e i d (R .became i))
+      append-nil _ ∙ ap (λ (h : Holder). run R h 0 x) (ap (λ (z : ℕ). enter (fateOf R (topHolder R i (R .became i)) z) y e) (zero-add d) ∙ enter-top y e i d (R .became i))
 
   pub perform-heard : (i d : ℕ) (y : Synchrony) (e : ErrorWord) (x : Seq) → R .became i ≡ heard →
       perform R i (group d y e x end) ≡ run R (heardGroup y e i (R .start i + d)) 0 x
@@ -48,23 +49,26 @@ module _ (R : Reading) where
 
   -- A missed sequence, and a group that is heard with delay 0.
   pub perform-late : (i j : ℕ) (x : Seq) → R .became i ≡ missed j → perform R i x ≡ run R (missedTop j (R .start i)) 0 x
-  unfolding perform top
-  perform-late i j x h = rw (h, top)
+  unfolding perform topHolder
+  perform-late i j x h = rw (h, topHolder)
 
   pub perform-at : (j : ℕ) (y : Synchrony) (e : ErrorWord) (x : Seq) → R .became j ≡ heard →
       perform R j (group 0 y e x end) ≡ run R (heardGroup y e j (R .start j)) 0 x
   perform-at j y e x h = perform-heard j 0 y e x h ∙ ap (λ (z : ℕ). run R (heardGroup y e j z) 0 x) (add-zero (R .start j))
 
-  -- Nothing is played in silence.
-  silence : (s : ℕ) (x : Seq) → triples (run R silent s x) ≡ []
-  unfolding run fateOf outcomeOf enter triples keep
-  silence s end = refl
-  silence s (action d m p r) = silence (s + d) r
-  silence s (group d y e x r) = triples-append (run R silent 0 x) (run R silent (s + d) r) ∙ ap₂ _++_ (silence 0 x) (silence (s + d) r)
+  -- Under a holder that gives each item a fate by which nothing is played, and enters its groups by itself, nothing is.
+  pub silence : (h : Holder) (f : Fate) → ((s : ℕ) → fateOf R h s ≡ f) → ((y : Synchrony) (e : ErrorWord) → enter f y e ≡ h) →
+      ((m : ℕ) (l : List Triple) → keep (outcomeOf R f) m l ≡ l) → (s : ℕ) (x : Seq) → triples (run R h s x) ≡ []
+  unfolding run triples
+  silence h f F N K s end = refl
+  silence h f F N K s (action d m p r) = rw (F (s + d), K m (triples (run R h (s + d) r))) (silence h f F N K (s + d) r)
+  silence h f F N K s (group d y e x r) =
+      rw (F (s + d), N y e) (triples-append (run R h 0 x) (run R h (s + d) r) ∙ ap₂ _++_ (silence h f F N K 0 x) (silence h f F N K (s + d) r))
 
   pub missed-local-body : (y : Synchrony) (j b s : ℕ) (x : Seq) → triples (run R (missedGroup y local j b) s x) ≡ []
-  unfolding fateOf missedFate
-  missed-local-body y j b s x = ap triples (run-alike R (missedGroup y local j b) silent s s x (λ n. refl)) ∙ silence s x
+  unfolding fateOf missedFate enter outcomeOf keep
+  missed-local-body y j b s x =
+      ap triples (run-alike R (missedGroup y local j b) silent s s x (λ n. refl)) ∙ silence silent nothing (λ n. refl) (λ v e. refl) (λ m l. refl) s x
 
   pub missed-global-body : (y : Synchrony) (j b s : ℕ) (x : Seq) → run R (missedGroup y global j b) s x ≡ run R (heardGroup y global j (R .start j)) s x
   unfolding fateOf missedFate globalStart
@@ -78,37 +82,38 @@ module _ (R : Reading) where
 -- ---- past and future
 
 module _ (R : Reading) (j : ℕ) where
-  future-from : (t : ℕ) → future R j t ≡ true → R .start j ≤ t
-  unfolding future past
-  future-from t p = ltb-false t (R .start j) (not-true _ p)
+  not-past : (t : ℕ) → future R j t ≡ true → past R j t ≡ false
+  unfolding future
+  not-past t p = not-true _ p
 
   past-then-future : Splits all (past R j) (future R j)
-  unfolding future past
+  unfolding future
   past-then-future =
       record {
         earlier = λ t p. (refl, rw p);
         later = λ t p. rw p;
-        apart = λ t u l p. let q : R .start j ≤ t = ltb-false t (R .start j) (not-true _ p) in le-ltb u (R .start j) (omega arith);
+        apart = λ t u l p. past-first R j t u l (not-past t p);
       }
 
   -- A missed body whose past items run as P says by their dates, and whose future ones are heard at j.
   module _ (y : Synchrony) (e : ErrorWord) (P : ℕ → Fate) where
     abbrev either : ℕ → Fate
-    either t = pick (past R j t) (P t) (heardFate R y e j t)
+    either t = pick (past R j t) (P t) (heardFate R y e j (futureDate R j t))
 
     either-past : (t : ℕ) → past R j t ≡ true → either t ≡ P t
     unfolding pick
     either-past t p = rw (p, pick)
 
-    either-future : (t : ℕ) → future R j t ≡ true → either t ≡ heardFate R y e j t
-    unfolding pick future
-    either-future t p = rw (not-true (past R j t) p, pick)
+    either-future : (t : ℕ) → future R j t ≡ true → either t ≡ heardFate R y e j (futureDate R j t)
+    unfolding pick
+    either-future t p = rw (not-past t p, pick)
 
-    future-select : (b : ℕ) (x : Seq) → run R (heardGroup y e j (R .start j)) 0 (futureItems R j b x) ≡ sift R (future R j) (future R j) (heardFate R y e j) b 0 x
+    future-select : (b : ℕ) (x : Seq) →
+        run R (heardGroup y e j (R .start j)) 0 (futureItems R j b x) ≡ sift R (future R j) (future R j) (λ t. heardFate R y e j (futureDate R j t)) b 0 x
     unfolding futureItems fateOf
     future-select b x =
-        sift-select R _ _ (heardGroup y e j (R .start j)) (heardFate R y e j) (R .start j) (λ n. refl) b 0 0 (R .start j) x (add-zero _)
-        (λ t l p. future-from t p) (λ t l p. future-from t p)
+        sift-select R (futureDate R j) (future-rises R j) _ _ (heardGroup y e j (R .start j)) (heardFate R y e j) (R .start j) (λ n. refl) b 0 0 (R .start j) x
+        (add-zero _) (λ t l p. future-from R j t (not-past t p)) (λ t l p. future-from R j t (not-past t p))
 
     cut : (b : ℕ) (x : Seq) → ((n : ℕ) → fateOf R (missedGroup y e j b) n ≡ either (b + n)) →
         run R (missedGroup y e j b) 0 x ≡ sift R (past R j) (past R j) P b 0 x ++ run R (heardGroup y e j (R .start j)) 0 (futureItems R j b x)
@@ -117,7 +122,7 @@ module _ (R : Reading) (j : ℕ) where
         ∙ (sift-split R all (past R j) (future R j) either b past-then-future 0 x
         ∙ ap₂ _++_
         (sift-same R _ _ either P b 0 x either-past either-past)
-        (sift-same R _ _ either (heardFate R y e j) b 0 x either-future either-future ∙ sym (future-select b x)))
+        (sift-same R _ _ either _ b 0 x either-future either-future ∙ sym (future-select b x)))
 
   module _ (y : Synchrony) (b c : ℕ) (x : Seq) (l : c ≤ b) where
     from-start : (A : ℕ → Bool) (t : ℕ) → b + 0 ≤ t → A t ≡ true → c ≤ t
@@ -130,14 +135,14 @@ module _ (R : Reading) (j : ℕ) where
     missed-causal-body =
         cut y causal (λ t. missedBy j (grains t)) b x (λ n. refl)
         ∙ ap (λ (z : List Line). z ++ run R (heardGroup y causal j (R .start j)) 0 (futureItems R j b x))
-        (sym (sift-select R (past R j) (past R j) (missedTop j c) (λ t. missedBy j (grains t)) c (λ n. refl) b 0 0 c x (add-zero c)
+        (sym (sift-select R ownDate (λ t u h. h) (past R j) (past R j) (missedTop j c) (λ t. missedBy j (grains t)) c (λ n. refl) b 0 0 c x (add-zero c)
         (from-start (past R j)) (from-start (past R j))))
 
     -- Past groups run as missed by their own words, and keep their dates.
     past-groups : run R (missedTop j c) 0 (pastGroups R j b c x) ≡ sift R (λ t. false) (past R j) (λ t. groupsOnly j (grains t)) b 0 x
     unfolding fateOf pastGroups enter
     past-groups =
-        sift-select R (λ t. false) (past R j) (missedTop j c) (λ t. missedBy j (grains t)) c (λ n. refl) b 0 0 c x (add-zero c)
+        sift-select R ownDate (λ t u h. h) (λ t. false) (past R j) (missedTop j c) (λ t. missedBy j (grains t)) c (λ n. refl) b 0 0 c x (add-zero c)
         (from-start (λ t. false)) (from-start (past R j))
         ∙ sift-groups R (past R j) (λ t. missedBy j (grains t)) (λ t. groupsOnly j (grains t)) b 0 x (λ t o w. refl)
 
@@ -197,7 +202,7 @@ module _ (R : Reading) (n : ℕ) (o : Orderly R n) where
       run R (held loose e k (R .start k) (R .became k)) 0 (slice R k b x) ≡ sift R (goesTo R k) (goesTo R k) (λ t. slicedFate R e k t (R .became k)) b 0 x
   unfolding slice
   slice-select e k b x =
-      sift-select R _ _ (held loose e k (R .start k) (R .became k)) (λ t. slicedFate R e k t (R .became k)) (R .start k)
+      sift-select R ownDate (λ t u h. h) _ _ (held loose e k (R .start k) (R .became k)) (λ t. slicedFate R e k t (R .became k)) (R .start k)
       (λ m. slice-fate e k m (R .became k)) b 0 0 (R .start k) x (add-zero _) (λ t l p. slice-from k t p) (λ t l p. slice-from k t p)
 
   goes-fate : (e : ErrorWord) (i k t : ℕ) → goesTo R k t ≡ true → heardFate R tight e i t ≡ slicedFate R e k t (R .became k)

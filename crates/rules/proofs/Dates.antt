@@ -25,12 +25,6 @@ total-next [] k h = absurd (omega arith)
 total-next (d ∷ ds) zero h = omega arith
 total-next (d ∷ ds) (suc k) h = omega (arith, total-next ds k (omega arith))
 
-total-le : (ds : List ℕ) (k : ℕ) → total ds k ≤ total ds (length ds)
-unfolding total
-total-le ds zero = omega arith
-total-le [] (suc k) = omega arith
-total-le (d ∷ ds) (suc k) = omega (arith, total-le ds k)
-
 -- "E(i) is the sum of the durations of events 1 to i-1": of none for the first, and of one more for the next.
 pub E-first : (ds : List ℕ) → E ds 1 ≡ 0
 unfolding E total
@@ -43,11 +37,6 @@ E-next ds k h = total-next ds k h
 pub E-mono : (ds : List ℕ) (i j : ℕ) → i ≤ j → E ds i ≤ E ds j
 unfolding E
 E-mono ds i j h = total-mono ds (pred i) (pred j) (omega arith)
-
--- No event begins after the whole length.
-pub E-le-total : (ds : List ℕ) (i : ℕ) → E ds i ≤ total ds (length ds)
-unfolding E
-E-le-total ds i = total-le ds (pred i)
 
 -- ---- "the last event k with E(k) <= t"
 

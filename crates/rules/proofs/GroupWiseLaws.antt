@@ -22,37 +22,37 @@ itemsIn end = 0
 itemsIn (action d m p rest) = suc (itemsIn rest)
 itemsIn (group d y e body rest) = suc (itemsIn body + itemsIn rest)
 
-select-few : (A G : ℕ → Bool) (b s c : ℕ) (x : Seq) → itemsIn (select A G b s c x) ≤ itemsIn x
+select-few : (dated : ℕ → ℕ) (A G : ℕ → Bool) (b s c : ℕ) (x : Seq) → itemsIn (select dated A G b s c x) ≤ itemsIn x
 unfolding select itemsIn
-select-few A G b s c end = omega arith
-select-few A G b s c (action d m p r) = go (A (b + (s + d))) refl (λ z. select-few A G b (s + d) z r)
+select-few dated A G b s c end = omega arith
+select-few dated A G b s c (action d m p r) = go (A (b + (s + d))) refl (λ z. select-few dated A G b (s + d) z r)
   where
-    go : (v : Bool) → A (b + (s + d)) ≡ v → ((z : ℕ) → itemsIn (select A G b (s + d) z r) ≤ itemsIn r) →
-        itemsIn (select A G b s c (action d m p r)) ≤ suc (itemsIn r)
-    go true e ih = rw (e, select) (omega (arith, ih (b + (s + d))))
+    go : (v : Bool) → A (b + (s + d)) ≡ v → ((z : ℕ) → itemsIn (select dated A G b (s + d) z r) ≤ itemsIn r) →
+        itemsIn (select dated A G b s c (action d m p r)) ≤ suc (itemsIn r)
+    go true e ih = rw (e, select) (omega (arith, ih (dated (b + (s + d)))))
     go false e ih = rw (e, select) (omega (arith, ih c))
-select-few A G b s c (group d y w x r) = go (G (b + (s + d))) refl (λ z. select-few A G b (s + d) z r)
+select-few dated A G b s c (group d y w x r) = go (G (b + (s + d))) refl (λ z. select-few dated A G b (s + d) z r)
   where
-    go : (v : Bool) → G (b + (s + d)) ≡ v → ((z : ℕ) → itemsIn (select A G b (s + d) z r) ≤ itemsIn r) →
-        itemsIn (select A G b s c (group d y w x r)) ≤ suc (itemsIn x + itemsIn r)
-    go true e ih = rw (e, select) (omega (arith, ih (b + (s + d))))
+    go : (v : Bool) → G (b + (s + d)) ≡ v → ((z : ℕ) → itemsIn (select dated A G b (s + d) z r) ≤ itemsIn r) →
+        itemsIn (select dated A G b s c (group d y w x r)) ≤ suc (itemsIn x + itemsIn r)
+    go true e ih = rw (e, select) (omega (arith, ih (dated (b + (s + d)))))
     go false e ih = rw (e, select) (omega (arith, ih c))
 
 past-few : (R : Reading) (j b c : ℕ) (x : Seq) → itemsIn (pastItems R j b c x) ≤ itemsIn x
 unfolding pastItems
-past-few R j b c x = select-few _ _ b 0 c x
+past-few R j b c x = select-few _ _ _ b 0 c x
 
 groups-few : (R : Reading) (j b c : ℕ) (x : Seq) → itemsIn (pastGroups R j b c x) ≤ itemsIn x
 unfolding pastGroups
-groups-few R j b c x = select-few _ _ b 0 c x
+groups-few R j b c x = select-few _ _ _ b 0 c x
 
 future-few : (R : Reading) (j b : ℕ) (x : Seq) → itemsIn (futureItems R j b x) ≤ itemsIn x
 unfolding futureItems
-future-few R j b x = select-few _ _ b 0 _ x
+future-few R j b x = select-few _ _ _ b 0 _ x
 
 slice-few : (R : Reading) (k b : ℕ) (x : Seq) → itemsIn (slice R k b x) ≤ itemsIn x
 unfolding slice
-slice-few R k b x = select-few _ _ b 0 _ x
+slice-few R k b x = select-few _ _ _ b 0 _ x
 
 -- ---- two that keep to the rules
 

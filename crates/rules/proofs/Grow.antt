@@ -6,16 +6,16 @@ use mathlib.Core.Bool.{Bool, true, false}
 use mathlib.Core.List.{List, [], _∷_, _++_}
 use native.Mathlib.Omega.{arith}
 use native.Mathlib.Nat.{le-refl}
-use lib.Dec.{ltb}
 use lib.ListN.{length}
-use borrow.Author.Tests.{ltb-false}
 use Rattle.base.specs.Tests.{pick}
+use Rattle.rules.specs.Terms.{Terms}
 use Rattle.rules.specs.Words.{Synchrony, loose, tight, ErrorWord, local, global, partial, causal}
 use Rattle.rules.specs.Score.{Seq, end, action, group, E, lastBy}
 use Rattle.rules.specs.Heard.{Taken, heard, missed, unsettled, taken}
-use Rattle.rules.specs.Rules.{Reading, readingOf, Fate, heardAt, missedBy, groupsOnly, nothing, notYet, grains, past, globalStart, missedFate, loosely, slicedFate, heardFate, Holder, heardGroup, missedGroup, missedTop, silent, waiting, fateOf, Outcome, played, undecided, outcomeOf, enter, Line, run, top, perform}
+use Rattle.rules.specs.Rules.{Reading, readingOf, Fate, heardAt, missedBy, groupsOnly, nothing, notYet, grains, past, futureDate, globalStart, missedFate, loosely, slicedFate, heardFate, Holder, heardGroup, missedGroup, missedTop, silent, waiting, fateOf, Outcome, played, undecided, outcomeOf, enter, Line, run, topHolder, perform}
 use Rattle.rules.specs.Page.{Entry, Cue, cast, cues}
 use Rattle.rules.specs.Settled.{Below, Settles, stays, drops, plays, Settled, no-lines, settled-line, SettledCues, no-cues, settled-cue}
+use Rattle.rules.proofs.Events.{FateWith, HolderWith, enter-with, missed-with}
 use Rattle.rules.proofs.Dates.{lastBy-le, lastBy-ge}
 use Rattle.rules.proofs.HeardLaws.{Turns, same, now, passed, turns, settled-from}
 
@@ -25,30 +25,28 @@ lines-append (settled-line a p) q = settled-line a (lines-append p q)
 
 -- ---- h, an event of the score ds that comes after all of D, is heard
 
-module _ (ds D : List ℕ) (h : ℕ) (fits : h ≤ length ds) (above : Below h D) where
+module _ (terms : Terms) (ds D : List ℕ) (h : ℕ) (fits : h ≤ length ds) (above : Below h D) where
   abbrev before : Reading
-  before = readingOf ds D
+  before = readingOf terms ds D
 
   abbrev after : Reading
-  after = readingOf ds (D ++ (h ∷ []))
+  after = readingOf terms ds (D ++ (h ∷ []))
 
   -- What h alone brings about: at h, and if heard there, not before E(h).
-  Fresh : Fate → Type 0
-  Fresh (heardAt i t) = (i ≡ h) × (E ds h ≤ t .0)
-  Fresh (missedBy j t) = j ≡ h
-  Fresh (groupsOnly j t) = j ≡ h
-  Fresh nothing = Unit {0}
-  Fresh notYet = Unit {0}
+  abbrev HeardFresh : (i t : ℕ) → Type 0
+  HeardFresh i t = (i ≡ h) × (E ds h ≤ t)
 
-  FreshHolder : Holder → Type 0
-  FreshHolder (heardGroup y e i b) = (i ≡ h) × (E ds h ≤ b)
-  FreshHolder (missedGroup y e j b) = j ≡ h
-  FreshHolder (missedTop j b) = j ≡ h
-  FreshHolder silent = Unit {0}
-  FreshHolder waiting = Unit {0}
+  abbrev MissedFresh : (j t : ℕ) → Type 0
+  MissedFresh j t = j ≡ h
+
+  abbrev Fresh : Fate → Type 0
+  Fresh = FateWith HeardFresh MissedFresh
+
+  abbrev FreshHolder : Holder → Type 0
+  FreshHolder = HolderWith HeardFresh MissedFresh
 
   fresh-outcome : (f : Fate) → Fresh f → Settles h undecided (outcomeOf after f)
-  unfolding outcomeOf Fresh
+  unfolding outcomeOf FateWith
   fresh-outcome (heardAt i t) p = plays (p .0)
   fresh-outcome (missedBy j t) p = plays p
   fresh-outcome (groupsOnly j t) p = drops
@@ -56,45 +54,29 @@ module _ (ds D : List ℕ) (h : ℕ) (fits : h ≤ length ds) (above : Below h D
   fresh-outcome notYet p = stays
 
   fresh-enter : (f : Fate) (y : Synchrony) (e : ErrorWord) → Fresh f → FreshHolder (enter f y e)
-  unfolding enter Fresh FreshHolder
-  fresh-enter (heardAt i t) y e p = p
-  fresh-enter (missedBy j t) y e p = p
-  fresh-enter (groupsOnly j t) y e p = p
-  fresh-enter nothing y e p = tt
-  fresh-enter notYet y e p = tt
-
-  fresh-past : (t : ℕ) (f g : Fate) → Fresh f → (E ds h ≤ t → Fresh g) → Fresh (pick (past after h t) f g)
-  unfolding pick past readingOf
-  fresh-past t f g a b = go (ltb t (E ds h)) refl
-    where
-      go : (v : Bool) → ltb t (E ds h) ≡ v → Fresh (pick v f g)
-      go true q = a
-      go false q = b (ltb-false t (E ds h) q)
+  fresh-enter = enter-with HeardFresh MissedFresh
 
   fresh-missed : (e : ErrorWord) (b s : ℕ) (hear : ℕ → Fate) → ((t : ℕ) → E ds h ≤ t → Fresh (hear t)) → Fresh (missedFate after e h b s hear)
-  unfolding missedFate globalStart Fresh readingOf
-  fresh-missed local b s hear f = tt
-  fresh-missed global b s hear f = f (E ds h + s) (omega arith)
-  fresh-missed partial b s hear f = fresh-past (b + s) _ _ refl (f (b + s))
-  fresh-missed causal b s hear f = fresh-past (b + s) _ _ refl (f (b + s))
+  unfolding globalStart readingOf
+  fresh-missed e b s hear f = missed-with HeardFresh MissedFresh after e h b s hear refl (f (E ds h + s) (omega arith)) (f (futureDate after h (b + s)))
 
   -- From h on nothing but h is heard, so a slice is heard at h or waits.
   fresh-sliced : (e : ErrorWord) (t : ℕ) (v w : Taken) → E ds h ≤ t → Turns h (lastBy ds t) v w → v ≡ unsettled → h ≤ lastBy ds t →
       Fresh (slicedFate after e (lastBy ds t) t w)
-  unfolding slicedFate Fresh
+  unfolding slicedFate FateWith
   fresh-sliced e t v w l same p n = rw p tt
   fresh-sliced e t v w l (now q) p n = (q, l)
   fresh-sliced e t v w l (passed q) p n = absurd (omega arith)
 
   fresh-heard : (y : Synchrony) (e : ErrorWord) (t : ℕ) → E ds h ≤ t → Fresh (heardFate after y e h t)
-  unfolding heardFate Fresh readingOf taken
+  unfolding heardFate FateWith readingOf taken
   fresh-heard loose e t l = (refl, l)
   fresh-heard tight e t l =
       let n : h ≤ lastBy ds t = lastBy-ge ds t h fits l in
       rw (settled-from h (lastBy ds t) above n) (fresh-sliced e t unsettled _ l (turns [] h (lastBy ds t)) refl n)
 
   fresh-fate : (k : Holder) (s : ℕ) → FreshHolder k → Fresh (fateOf after k s)
-  unfolding fateOf Fresh FreshHolder
+  unfolding fateOf FateWith HolderWith
   fresh-fate (heardGroup y e i b) s p = rw (p .0) (fresh-heard y e (b + s) (omega arith))
   fresh-fate (missedGroup y e j b) s p = rw p (fresh-missed e b s _ (fresh-heard y e))
   fresh-fate (missedTop j b) s p = p
@@ -118,7 +100,7 @@ module _ (ds D : List ℕ) (h : ℕ) (fits : h ≤ length ds) (above : Below h D
     fresh : {f : Fate} → Fresh f → Grows notYet f
 
   missed-alike : (e : ErrorWord) (j b s : ℕ) (hear : ℕ → Fate) → missedFate before e j b s hear ≡ missedFate after e j b s hear
-  unfolding missedFate past globalStart readingOf
+  unfolding missedFate past futureDate globalStart readingOf
   missed-alike local j b s hear = refl
   missed-alike global j b s hear = refl
   missed-alike partial j b s hear = refl
@@ -126,7 +108,7 @@ module _ (ds D : List ℕ) (h : ℕ) (fits : h ≤ length ds) (above : Below h D
 
   grow-sliced : (e : ErrorWord) (t : ℕ) (v w : Taken) → Turns h (lastBy ds t) v w →
       Grows (slicedFate before e (lastBy ds t) t v) (slicedFate after e (lastBy ds t) t w)
-  unfolding slicedFate Fresh readingOf
+  unfolding slicedFate FateWith readingOf
   grow-sliced e t heard w same = alike
   grow-sliced e t (missed j) w same = rw (missed-alike e j (E ds (lastBy ds t)) (t - E ds (lastBy ds t)) (loosely j)) alike
   grow-sliced e t unsettled w same = alike
@@ -144,11 +126,11 @@ module _ (ds D : List ℕ) (h : ℕ) (fits : h ≤ length ds) (above : Below h D
   grow-past false p f g q = q
 
   grow-missed : (e : ErrorWord) (j b s : ℕ) (f g : ℕ → Fate) → ((t : ℕ) → Grows (f t) (g t)) → Grows (missedFate before e j b s f) (missedFate after e j b s g)
-  unfolding missedFate past globalStart readingOf
+  unfolding missedFate past futureDate globalStart readingOf
   grow-missed local j b s f g q = alike
   grow-missed global j b s f g q = q (E ds j + s)
-  grow-missed partial j b s f g q = grow-past _ _ _ _ (q (b + s))
-  grow-missed causal j b s f g q = grow-past _ _ _ _ (q (b + s))
+  grow-missed partial j b s f g q = grow-past _ _ _ _ (q (futureDate before j (b + s)))
+  grow-missed causal j b s f g q = grow-past _ _ _ _ (q (futureDate before j (b + s)))
 
   grow-fate : (k : Holder) (s : ℕ) → Grows (fateOf before k s) (fateOf after k s)
   unfolding fateOf
@@ -183,8 +165,8 @@ module _ (ds D : List ℕ) (h : ℕ) (fits : h ≤ length ds) (above : Below h D
   settled-run k s (action d m p x) = settled-line (grow-outcome _ _ (grow-fate k (s + d))) (settled-run k (s + d) x)
   settled-run k s (group d y e b x) = lines-append (grow-enter y e b _ _ (grow-fate k (s + d)) (λ n. settled-run n 0 b)) (settled-run k (s + d) x)
 
-  settled-top : (i : ℕ) (x : Seq) (v w : Taken) → Turns h i v w → Settled h (run before (top before i v) 0 x) (run after (top after i w) 0 x)
-  unfolding top FreshHolder readingOf
+  settled-top : (i : ℕ) (x : Seq) (v w : Taken) → Turns h i v w → Settled h (run before (topHolder before i v) 0 x) (run after (topHolder after i w) 0 x)
+  unfolding topHolder HolderWith readingOf
   settled-top i x heard w same = settled-run (heardGroup loose local i (E ds i)) 0 x
   settled-top i x (missed j) w same = settled-run (missedTop j (E ds i)) 0 x
   settled-top i x unsettled w same = settled-run waiting 0 x
@@ -193,7 +175,7 @@ module _ (ds D : List ℕ) (h : ℕ) (fits : h ≤ length ds) (above : Below h D
 
   -- "The sounding parts' messages are sent at the first call, from the one that heard the triple's event on": the events heard before give h's triples nothing,
   -- and h changes none of theirs. Of one sequence:
-  pub settled : (i : ℕ) (x : Seq) → Settled h (perform (readingOf ds D) i x) (perform (readingOf ds (D ++ (h ∷ []))) i x)
+  pub settled : (i : ℕ) (x : Seq) → Settled h (perform (readingOf terms ds D) i x) (perform (readingOf terms ds (D ++ (h ∷ []))) i x)
   unfolding perform readingOf
   settled i x = settled-top i x _ _ (turns D h i)
 
@@ -203,7 +185,7 @@ module _ (ds D : List ℕ) (h : ℕ) (fits : h ≤ length ds) (above : Below h D
   cast-append p (settled-line a r) q = settled-cue a (cast-append p r q)
 
   -- Of a whole page:
-  pub settled-cues : (es : List Entry) → SettledCues h (cues (readingOf ds D) es) (cues (readingOf ds (D ++ (h ∷ []))) es)
+  pub settled-cues : (es : List Entry) → SettledCues h (cues (readingOf terms ds D) es) (cues (readingOf terms ds (D ++ (h ∷ []))) es)
   unfolding cues
   settled-cues [] = no-cues
   settled-cues (e ∷ es) = cast-append (e .part) (settled (e .event) (e .body)) (settled-cues es)

@@ -1,6 +1,7 @@
 pub mod WordLaws
 pub mod Dates
 pub mod HeardLaws
+pub mod PastLaws
 pub mod Sift
 pub mod Bodies
 pub mod RuleLaws

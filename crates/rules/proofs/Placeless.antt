@@ -9,7 +9,7 @@ use lib.ListN.{take, drop}
 use Rattle.page.specs.declared.Item.{Item}
 use Rattle.rules.specs.Words.{synchronyOf, errorOf}
 use Rattle.rules.specs.Score.{Seq, end, action, group}
-use Rattle.rules.specs.Rules.{Reading, Holder, fateOf, outcomeOf, enter, Line, line, run, top, perform}
+use Rattle.rules.specs.Rules.{Reading, Holder, fateOf, outcomeOf, enter, Line, line, run, topHolder, perform}
 use Rattle.rules.specs.Page.{sequenceOf, Entry, Cue, cast, cues}
 use Rattle.rules.specs.Parts.{placeless}
 
@@ -54,7 +54,7 @@ pub cues-bare : (R : Reading) (es : List Entry) → cues R (bareEntries es) ≡ 
 unfolding cues bareEntries placeless perform
 cues-bare R [] = refl
 cues-bare R (e ∷ es) =
-    let h = top R (e .event) (R .became (e .event)) in
+    let h = topHolder R (e .event) (R .became (e .event)) in
     ap₂ _++_ (ap (cast (e .part)) (run-bare R h 0 (e .body)) ∙ cast-bare (e .part) (run R h 0 (e .body))) (cues-bare R es)
     ∙ sym (placeless-append (cast (e .part) (run R h 0 (e .body))) (cues R es))
 

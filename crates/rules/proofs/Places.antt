@@ -27,10 +27,10 @@ placed-append g h (placed {p = p} x y r) q = placed x (le-trans y h) (placed-app
 
 -- ---- a sequence
 
-sequence-none : (n v p : ℕ) → sequenceOf n v p [] ≡ end
+pub sequence-empty : (n v p : ℕ) → sequenceOf n v p [] ≡ end
 unfolding sequenceOf
-sequence-none zero v p = refl
-sequence-none (suc n) v p = refl
+sequence-empty zero v p = refl
+sequence-empty (suc n) v p = refl
 
 abbrev Stands : (q n v p : ℕ) → List Item → Type 0
 Stands q n v p is = Placed p (p + length is) (actionsOf q (sequenceOf n v p is))
@@ -47,7 +47,7 @@ rest-placed q n v p k is ih = go (leb k (length is)) refl
         placed-wider (omega (arith, length-take k is)) (omega (arith, length-drop k is)) (ih v (p + 1 + k) (drop k is))
     go false e =
         let l : length is ≤ k = omega (arith, leb-false k (length is) e) in
-        rw (drop-of-length-le is l, sequence-none n v (p + 1 + k)) no-actions
+        rw (drop-of-length-le is l, sequence-empty n v (p + 1 + k)) no-actions
 
 body-placed : (q n v p k : ℕ) (is : List Item) → ((v p : ℕ) (is : List Item) → Stands q n v p is) →
     Placed p (p + 1 + length (take k is)) (actionsOf q (elim v [ zero ↦ end | suc u ↦ sequenceOf n u (p + 1) (take k is) ]))

@@ -4,21 +4,23 @@ use mathlib.Core.Path.{_≡_, refl, ap, ap₂, _∙_}
 use Prim.Native.Nat.{ℕ, _+_, _-_, _≤_}
 use mathlib.Core.List.{List, [], _∷_, _++_}
 use lib.ListN.{length}
+use Rattle.rules.specs.Terms.{Terms}
 use Rattle.rules.specs.Words.{Synchrony, loose, tight, ErrorWord, local, global, partial, causal}
 use Rattle.rules.specs.Score.{Seq, end, action, group}
 use Rattle.rules.specs.Heard.{Taken, heard, missed, unsettled}
-use Rattle.rules.specs.Rules.{Reading, readingOf, Fate, heardAt, missedBy, groupsOnly, nothing, notYet, past, globalStart, missedFate, loosely, slicedFate, heardFate, Holder, heardGroup, missedGroup, missedTop, silent, waiting, fateOf, outcomeOf, enter, run, top, perform}
+use Rattle.rules.specs.Rules.{Reading, readingOf, Fate, heardAt, missedBy, groupsOnly, nothing, notYet, futureDate, globalStart, missedFate, loosely, slicedFate, heardFate, Holder, heardGroup, missedGroup, missedTop, silent, waiting, fateOf, outcomeOf, enter, run, topHolder, perform}
 use Rattle.rules.specs.Page.{Entry, cast, cues}
 use Rattle.rules.specs.Groups.{Orderly}
+use Rattle.rules.proofs.PastLaws.{past-agrees, future-agrees}
 use Rattle.rules.proofs.Dates.{lastBy-le, lastBy-some, lastBy-fits, lastBy-mono}
 use Rattle.rules.proofs.HeardLaws.{next-heard}
-use Rattle.rules.proofs.Events.{FateOn, HolderOn, enter-on, Reaches, fate-on, top-on}
+use Rattle.rules.proofs.Events.{FateWith, HolderWith, FateOn, HolderOn, enter-on, Reaches, fate-on, top-on}
 
 -- ---- the reading of a score, whatever was heard
 
-pub score-orderly : (ds D : List ℕ) → 1 ≤ length ds → Orderly (readingOf ds D) (length ds)
+pub score-orderly : (terms : Terms) (ds D : List ℕ) → 1 ≤ length ds → Orderly (readingOf terms ds D) (length ds)
 unfolding readingOf
-score-orderly ds D h =
+score-orderly terms ds D h =
     record {
       some = λ t. lastBy-some ds t h;
       fits = lastBy-fits ds;
@@ -47,16 +49,12 @@ module _ (n : ℕ) (R Q : Reading) (a : Agree n R Q) where
   reaches : Reaches R In
   reaches = record { here = λ t p. a .fits t; next = λ t j p. a .next (R .lastBefore t) j (a .fits t) p }
 
-  past-agrees : (j t : ℕ) → In j → past R j t ≡ past Q j t
-  unfolding past
-  past-agrees j t p = rw (a .start j p)
-
   missed-agrees : (e : ErrorWord) (j b s : ℕ) (h k : ℕ → Fate) → In j → ((t : ℕ) → h t ≡ k t) → missedFate R e j b s h ≡ missedFate Q e j b s k
   unfolding missedFate globalStart
   missed-agrees local j b s h k p f = refl
   missed-agrees global j b s h k p f = rw (a .start j p) (f (Q .start j + s))
-  missed-agrees partial j b s h k p f = rw (past-agrees j (b + s) p, f (b + s))
-  missed-agrees causal j b s h k p f = rw (past-agrees j (b + s) p, f (b + s))
+  missed-agrees partial j b s h k p f = rw (past-agrees R Q j (b + s) (a .start j p), future-agrees R Q j (b + s) (a .start j p), f (futureDate Q j (b + s)))
+  missed-agrees causal j b s h k p f = rw (past-agrees R Q j (b + s) (a .start j p), future-agrees R Q j (b + s) (a .start j p), f (futureDate Q j (b + s)))
 
   sliced-agrees : (e : ErrorWord) (k t : ℕ) (v : Taken) → In k → R .became k ≡ v → slicedFate R e k t v ≡ slicedFate Q e k t v
   unfolding slicedFate
@@ -73,7 +71,7 @@ module _ (n : ℕ) (R Q : Reading) (a : Agree n R Q) where
       ∙ ap (λ (k : ℕ). slicedFate Q e k t (Q .became k)) (a .lastBefore t))
 
   fate-agrees : (h : Holder) (s : ℕ) → HolderOn In h → fateOf R h s ≡ fateOf Q h s
-  unfolding fateOf HolderOn
+  unfolding fateOf HolderWith
   fate-agrees (heardGroup y e i b) s p = heard-agrees y e i (b + s)
   fate-agrees (missedGroup y e j b) s p = missed-agrees e j b s _ _ p (heard-agrees y e j)
   fate-agrees (missedTop j b) s p = refl
@@ -81,7 +79,7 @@ module _ (n : ℕ) (R Q : Reading) (a : Agree n R Q) where
   fate-agrees waiting s p = refl
 
   outcome-agrees : (f : Fate) → FateOn In f → outcomeOf R f ≡ outcomeOf Q f
-  unfolding outcomeOf FateOn
+  unfolding outcomeOf FateWith
   outcome-agrees (heardAt i t) p = rw (a .start i p)
   outcome-agrees (missedBy j t) p = rw (a .start j p)
   outcome-agrees (groupsOnly j t) p = refl
@@ -98,8 +96,8 @@ module _ (n : ℕ) (R Q : Reading) (a : Agree n R Q) where
       ∙ ap (λ (f : Fate). run Q (enter f y e) 0 b) (fate-agrees h (s + d) p))
       (run-agrees h (s + d) x p)
 
-  top-agrees : (i : ℕ) (v : Taken) → In i → top R i v ≡ top Q i v
-  unfolding top
+  top-agrees : (i : ℕ) (v : Taken) → In i → topHolder R i v ≡ topHolder Q i v
+  unfolding topHolder
   top-agrees i heard p = rw (a .start i p)
   top-agrees i (missed j) p = rw (a .start i p)
   top-agrees i unsettled p = refl
@@ -107,8 +105,8 @@ module _ (n : ℕ) (R Q : Reading) (a : Agree n R Q) where
   pub perform-agrees : (i : ℕ) (x : Seq) → In i → perform R i x ≡ perform Q i x
   unfolding perform
   perform-agrees i x p =
-      run-agrees (top R i (R .became i)) 0 x (top-on R In reaches i _ (λ q. p) (λ j q. a .next i j p q))
-      ∙ ap (λ (h : Holder). run Q h 0 x) (top-agrees i (R .became i) p ∙ ap (top Q i) (a .became i p))
+      run-agrees (topHolder R i (R .became i)) 0 x (top-on R In reaches i _ (λ q. p) (λ j q. a .next i j p q))
+      ∙ ap (λ (h : Holder). run Q h 0 x) (top-agrees i (R .became i) p ∙ ap (topHolder Q i) (a .became i p))
 
 -- The events of these sequences are 1 to n.
 pub data Within (n : ℕ) : List Entry → Type 0 where
@@ -119,13 +117,3 @@ pub cues-agree : (n : ℕ) (R Q : Reading) → Agree n R Q → {es : List Entry}
 unfolding cues
 cues-agree n R Q a no-entries = refl
 cues-agree n R Q a (entry-within {e = e} p w) = ap₂ _++_ (ap (cast (e .part)) (perform-agrees n R Q a (e .event) (e .body) p)) (cues-agree n R Q a w)
-
--- ---- two readings that answer alike about everything
-
-pub record Same (R Q : Reading) : Type 0 where
-  pub start : (k : ℕ) → R .start k ≡ Q .start k
-  pub lastBefore : (t : ℕ) → R .lastBefore t ≡ Q .lastBefore t
-  pub became : (k : ℕ) → R .became k ≡ Q .became k
-
-pub same-reading : (R Q : Reading) → Same R Q → R ≡ Q
-same-reading R Q a = λ i. record { start = λ k. a .start k i; lastBefore = λ t. a .lastBefore t i; became = λ k. a .became k i }

@@ -11,10 +11,9 @@ use Rattle.base.specs.Tests.{pick}
 use Rattle.rules.specs.Words.{Synchrony, loose, tight, ErrorWord, local, global, partial, causal}
 use Rattle.rules.specs.Score.{Seq, end, action, group}
 use Rattle.rules.specs.Heard.{heard, missed, unsettled}
-use Rattle.rules.specs.Rules.{Reading, heardFate, waiting, fateOf, played, outcomeOf, enter, line, run, top, perform, triples, keep}
+use Rattle.rules.specs.Rules.{Reading, notYet, heardFate, waiting, fateOf, played, outcomeOf, enter, line, run, topHolder, perform, triples, keep}
 use Rattle.rules.specs.Groups.{performFrom, select, pastItems, pastGroups, futureItems, goesTo, slice, slices, Orderly}
-use Rattle.rules.proofs.Sift.{triples-append}
-use Rattle.rules.proofs.Bodies.{perform-heard, perform-missed, perform-late, perform-at, heard-loose-body, heard-tight-body, missed-local-body, missed-global-body, missed-causal-body, missed-partial-body}
+use Rattle.rules.proofs.Bodies.{silence, perform-heard, perform-missed, perform-late, perform-at, heard-loose-body, heard-tight-body, missed-local-body, missed-global-body, missed-causal-body, missed-partial-body}
 
 -- ---- a sequence
 
@@ -35,16 +34,10 @@ module _ (R : Reading) (i : ℕ) where
   unfolding performFrom perform
   perform-from-nothing x = refl
 
-  still : (s : ℕ) (x : Seq) → triples (run R waiting s x) ≡ []
-  unfolding run fateOf outcomeOf enter triples keep
-  still s end = refl
-  still s (action d m p r) = still (s + d) r
-  still s (group d y e x r) = triples-append (run R waiting 0 x) (run R waiting (s + d) r) ∙ ap₂ _++_ (still 0 x) (still (s + d) r)
-
   -- "without one, i yields nothing yet"
   pub nothing-yet : (d : ℕ) (x : Seq) → R .became i ≡ unsettled → triples (performFrom R i d x) ≡ []
-  unfolding performFrom top
-  nothing-yet d x h = rw (h, top) (still d x)
+  unfolding performFrom topHolder fateOf outcomeOf enter keep
+  nothing-yet d x h = rw (h, topHolder) (silence R waiting notYet (λ s. refl) (λ y e. refl) (λ m l. refl) d x)
 
 -- ---- an item at event i
 
@@ -54,14 +47,14 @@ module _ (R : Reading) (n : ℕ) (o : Orderly R n) (i : ℕ) where
   module _ (is-heard : R .became i ≡ heard) where
     -- "Heard, action: (i, d, a), with d the summed delay."
     pub heard-action : (d m p : ℕ) → perform R i (action d m p end) ≡ line p m (played i d) ∷ []
-    unfolding perform run top fateOf heardFate outcomeOf
-    heard-action d m p = rw (is-heard, top) (ap (λ (z : ℕ). line p m (played i z) ∷ []) (omega arith))
+    unfolding perform run topHolder fateOf heardFate outcomeOf
+    heard-action d m p = rw (is-heard, topHolder) (ap (λ (z : ℕ). line p m (played i z) ∷ []) (omega arith))
 
     -- "Heard, loose group: its body as a sequence from (i, d)."
     pub heard-loose : (d : ℕ) (e : ErrorWord) (x : Seq) → perform R i (group d loose e x end) ≡ performFrom R i d x
-    unfolding performFrom top
+    unfolding performFrom topHolder
     heard-loose d e x =
-        perform-heard R i d loose e x is-heard ∙ (heard-loose-body R e local i (R .start i + d) (R .start i) 0 d x (omega arith) ∙ rw (is-heard, top))
+        perform-heard R i d loose e x is-heard ∙ (heard-loose-body R e local i (R .start i + d) (R .start i) 0 d x (omega arith) ∙ rw (is-heard, topHolder))
 
     -- "Heard, tight group: sliced. An item of the body with ideal date t = E(i) + d + its summed delay goes to the last event k with E(k) <= t. Each k that
     -- receives items gets a loose group with the same error word, at k with delay 0, its items at t - E(k). It runs by these rules, k heard or missed."
@@ -73,8 +66,8 @@ module _ (R : Reading) (n : ℕ) (o : Orderly R n) (i : ℕ) where
   module _ (j : ℕ) (is-missed : R .became i ≡ missed j) where
     -- "Missed, action: (j, max(0, E(i) + d - E(j)), a), with j = M(i)." A difference is never below 0.
     pub missed-action : (d m p : ℕ) → perform R i (action d m p end) ≡ line p m (played j (R .start i + d - R .start j)) ∷ []
-    unfolding perform run top fateOf outcomeOf
-    missed-action d m p = rw (is-missed, top, zero-add d)
+    unfolding perform run topHolder fateOf outcomeOf
+    missed-action d m p = rw (is-missed, topHolder, zero-add d)
 
     -- "Missed, local: nothing."
     pub missed-local : (d : ℕ) (y : Synchrony) (x : Seq) → triples (perform R i (group d y local x end)) ≡ []

@@ -35,40 +35,49 @@ sift-all R h f b s end F = refl
 sift-all R h f b s (action d m p r) F = rw (F (s + d), sift-all R h f b (s + d) r F)
 sift-all R h f b s (group d y e x r) F = rw (F (s + d), sift-all R h f b (s + d) r F)
 
--- What passes the test from the date n on comes at c or later.
-abbrev pub NotBefore : ℕ → (ℕ → Bool) → ℕ → Type 0
-NotBefore c T n = (t : ℕ) → n ≤ t → T t ≡ true → c ≤ t
+-- What passes the test from the date n on is dated c or later.
+abbrev pub NotBefore : (ℕ → ℕ) → ℕ → (ℕ → Bool) → ℕ → Type 0
+NotBefore dated c T n = (t : ℕ) → n ≤ t → T t ≡ true → c ≤ dated t
 
--- Selected items, under a holder k that starts at the date a.
-module _ (R : Reading) (A G : ℕ → Bool) (k : Holder) (g : ℕ → Fate) (a : ℕ) (K : (n : ℕ) → fateOf R k n ≡ g (a + n)) (b : ℕ) where
+-- A later item is dated no earlier.
+abbrev pub Monotone : (ℕ → ℕ) → Type 0
+Monotone dated = (t u : ℕ) → t ≤ u → dated t ≤ dated u
+
+-- Selected items at the dates that they are given, under a holder k that starts at the date a.
+module _ (R : Reading) (dated : ℕ → ℕ) (rises : Monotone dated) (A G : ℕ → Bool) (k : Holder) (g : ℕ → Fate) (a : ℕ) (K : (n : ℕ) → fateOf R k n ≡ g (a + n)) (b : ℕ) where
   placed : (u c t : ℕ) → a + u ≡ c → c ≤ t → fateOf R k (u + (t - c)) ≡ g t
   placed u c t e l = K (u + (t - c)) ∙ ap g (omega arith)
 
   abbrev Selects : (s u c : ℕ) → Seq → Type 0
-  Selects s u c x = run R k u (select A G b s c x) ≡ sift R A G g b s x
+  Selects s u c x = run R k u (select dated A G b s c x) ≡ sift R A G (λ t. g (dated t)) b s x
 
   abbrev Later : (s : ℕ) → Seq → Type 0
-  Later s x = (u c : ℕ) → a + u ≡ c → NotBefore c A (b + s) → NotBefore c G (b + s) → Selects s u c x
+  Later s x = (u c : ℕ) → a + u ≡ c → NotBefore dated c A (b + s) → NotBefore dated c G (b + s) → Selects s u c x
 
-  select-action : (s u c d m p : ℕ) (r : Seq) (v : Bool) → A (b + (s + d)) ≡ v → a + u ≡ c → NotBefore c A (b + s) → NotBefore c G (b + s) → Later (s + d) r →
+  select-action : (s u c d m p : ℕ) (r : Seq) (v : Bool) → A (b + (s + d)) ≡ v → a + u ≡ c → NotBefore dated c A (b + s) → NotBefore dated c G (b + s) → Later (s + d) r →
       Selects s u c (action d m p r)
   unfolding run select sift pick
   select-action s u c d m p r true y e i j ih =
       let t = b + (s + d) in
-      let l : c ≤ t = i t (omega arith) y in
-      rw (y, select, pick, placed u c t e l) (ap (λ (z : List Line). line p m (outcomeOf R (g t)) ∷ z) (ih (u + (t - c)) t (omega arith) (λ n h w. h) (λ n h w. h)))
+      let l : c ≤ dated t = i t (omega arith) y in
+      rw (y, select, pick, placed u c (dated t) e l)
+      (ap (λ (z : List Line). line p m (outcomeOf R (g (dated t))) ∷ z)
+      (ih (u + (dated t - c)) (dated t) (omega arith) (λ n h w. rises t n h) (λ n h w. rises t n h)))
   select-action s u c d m p r false y e i j ih = rw (y, select, pick) (ih u c e (λ n h. i n (omega arith)) (λ n h. j n (omega arith)))
 
-  select-group : (s u c d : ℕ) (o : Synchrony) (w : ErrorWord) (x r : Seq) (v : Bool) → G (b + (s + d)) ≡ v → a + u ≡ c → NotBefore c A (b + s) →
-      NotBefore c G (b + s) → Later (s + d) r → Selects s u c (group d o w x r)
+  select-group : (s u c d : ℕ) (o : Synchrony) (w : ErrorWord) (x r : Seq) (v : Bool) → G (b + (s + d)) ≡ v → a + u ≡ c → NotBefore dated c A (b + s) →
+      NotBefore dated c G (b + s) → Later (s + d) r → Selects s u c (group d o w x r)
   unfolding run select sift pick
   select-group s u c d o w x r true y e i j ih =
       let t = b + (s + d) in
-      let l : c ≤ t = j t (omega arith) y in
-      rw (y, select, pick, placed u c t e l) (ap (λ (z : List Line). run R (enter (g t) o w) 0 x ++ z) (ih (u + (t - c)) t (omega arith) (λ n h w. h) (λ n h w. h)))
+      let l : c ≤ dated t = j t (omega arith) y in
+      rw (y, select, pick, placed u c (dated t) e l)
+      (ap (λ (z : List Line). run R (enter (g (dated t)) o w) 0 x ++ z)
+      (ih (u + (dated t - c)) (dated t) (omega arith) (λ n h w. rises t n h) (λ n h w. rises t n h)))
   select-group s u c d o w x r false y e i j ih = rw (y, select, pick) (ih u c e (λ n h. i n (omega arith)) (λ n h. j n (omega arith)))
 
-  pub sift-select : (s u c : ℕ) (x : Seq) → a + u ≡ c → NotBefore c A (b + s) → NotBefore c G (b + s) → run R k u (select A G b s c x) ≡ sift R A G g b s x
+  pub sift-select : (s u c : ℕ) (x : Seq) → a + u ≡ c → NotBefore dated c A (b + s) → NotBefore dated c G (b + s) →
+      run R k u (select dated A G b s c x) ≡ sift R A G (λ t. g (dated t)) b s x
   unfolding run select sift
   sift-select s u c end e i j = refl
   sift-select s u c (action d m p r) e i j = select-action s u c d m p r _ refl e i j (λ v w. sift-select (s + d) v w r)

@@ -3,7 +3,7 @@
 use mathlib.Core.Path.{_≡_, refl}
 use Prim.Native.Nat.{ℕ, zero, suc}
 use borrow.Author.Needs.{needs}
-use Rattle.rules.specs.Words.{Synchrony, loose, tight, synchronyOf, ErrorWord, local, global, partial, causal, errorOf}
+use Rattle.rules.specs.Words.{loose, tight, synchronyOf, local, global, partial, causal, errorOf}
 
 pub loose-at : (n : ℕ) → n ≡ 0 → loose ≡ synchronyOf n
 unfolding synchronyOf

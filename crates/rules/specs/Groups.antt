@@ -7,44 +7,49 @@ use lib.Dec.{eqb}
 use Rattle.rules.specs.Words.{loose, ErrorWord}
 use Rattle.rules.specs.Score.{Seq, end, action, group}
 use Rattle.rules.specs.Heard.{heard, missed}
-use Rattle.rules.specs.Rules.{Reading, past, Line, run, top, perform}
+use Rattle.rules.specs.Rules.{Reading, past, futureDate, Line, run, topHolder, perform}
 
 -- A part's sequence at event i where the delays before it sum up to d: "a sequence from (i, d)".
 unfoldable pub performFrom : Reading → (i d : ℕ) → Seq → List Line
-performFrom R i d x = run R (top R i (R .became i)) d x
+performFrom R i d x = run R (topHolder R i (R .became i)) d x
 
--- The items of a sequence that are asked for, each at its own date: an action by the one test of its date, a group by the other. "A group inside goes whole, by
--- its start, with its own words." The sequence starts at the date b, s is the sum of its delays so far, and c is the date of the last item taken, at first
--- that at which the new sequence starts.
-unfoldable pub select : (actions groups : ℕ → Bool) → (b s c : ℕ) → Seq → Seq
-select A G b s c end = end
-select A G b s c (action d m p rest) =
+-- The items of a sequence that are asked for: an action by the one test of its date, a group by the other. "A group inside goes whole, by its start, with its
+-- own words." The sequence starts at the date b, and s is the sum of its delays so far. `dated` gives the date that an item has in the new sequence by its own,
+-- and c is that of the last item taken, at first the date at which the new sequence starts.
+unfoldable pub select : (dated : ℕ → ℕ) → (actions groups : ℕ → Bool) → (b s c : ℕ) → Seq → Seq
+select dated A G b s c end = end
+select dated A G b s c (action d m p rest) =
     elim (A (b + (s + d))) [
-      | true ↦ action (b + (s + d) - c) m p (select A G b (s + d) (b + (s + d)) rest)
-      | false ↦ select A G b (s + d) c rest
+      | true ↦ action (dated (b + (s + d)) - c) m p (select dated A G b (s + d) (dated (b + (s + d))) rest)
+      | false ↦ select dated A G b (s + d) c rest
     ]
-select A G b s c (group d y e body rest) =
+select dated A G b s c (group d y e body rest) =
     elim (G (b + (s + d))) [
-      | true ↦ group (b + (s + d) - c) y e body (select A G b (s + d) (b + (s + d)) rest)
-      | false ↦ select A G b (s + d) c rest
+      | true ↦ group (dated (b + (s + d)) - c) y e body (select dated A G b (s + d) (dated (b + (s + d))) rest)
+      | false ↦ select dated A G b (s + d) c rest
     ]
+
+-- Past items and those of a slice keep their dates.
+abbrev pub ownDate : ℕ → ℕ
+ownDate t = t
 
 -- ---- of a body that starts at the date b
 
 -- "the items starting before E(j) are past": at their dates, counted from c.
 unfoldable pub pastItems : Reading → (j b c : ℕ) → Seq → Seq
-pastItems R j b c x = select (past R j) (past R j) b 0 c x
+pastItems R j b c x = select ownDate (past R j) (past R j) b 0 c x
 
 -- "past actions are dropped"
 unfoldable pub pastGroups : Reading → (j b c : ℕ) → Seq → Seq
-pastGroups R j b c x = select (λ t. false) (past R j) b 0 c x
+pastGroups R j b c x = select ownDate (λ t. false) (past R j) b 0 c x
 
--- "the others future": "their dates less E(j)".
+-- "the others future"
 unfoldable pub future : Reading → (j t : ℕ) → Bool
 future R j t = not (past R j t)
 
+-- "their dates less E(j)"
 unfoldable pub futureItems : Reading → (j b : ℕ) → Seq → Seq
-futureItems R j b x = select (future R j) (future R j) b 0 (R .start j) x
+futureItems R j b x = select (futureDate R j) (future R j) (future R j) b 0 (R .start j) x
 
 -- "An item of the body with ideal date t [..] goes to the last event k with E(k) <= t."
 unfoldable pub goesTo : Reading → (k t : ℕ) → Bool
@@ -52,7 +57,7 @@ goesTo R k t = eqb (R .lastBefore t) k
 
 -- "its items at t - E(k)"
 unfoldable pub slice : Reading → (k b : ℕ) → Seq → Seq
-slice R k b x = select (goesTo R k) (goesTo R k) b 0 (R .start k) x
+slice R k b x = select ownDate (goesTo R k) (goesTo R k) b 0 (R .start k) x
 
 -- "Each k that receives items gets a loose group with the same error word, at k with delay 0 [..]. It runs by these rules, k heard or missed." From 1 to n;
 -- an event that receives none has an empty group, which yields nothing.

@@ -8,6 +8,7 @@ use Rattle.units.specs.declared.Grains.{Grains}
 use Rattle.base.specs.Tests.{pick}
 pub use Rattle.rules.specs.declared.Fate.{Fate}
 pub use Rattle.rules.specs.declared.Fate.the-variants.{HeardAt as heardAt, MissedBy as missedBy, GroupsOnly as groupsOnly, Nothing as nothing, NotYet as notYet}
+use Rattle.rules.specs.Terms.{Terms}
 use Rattle.rules.specs.Words.{Synchrony, loose, tight, ErrorWord, local, global, partial, causal}
 use Rattle.rules.specs.Score.{Seq, end, action, group, E, lastBy}
 use Rattle.rules.specs.Heard.{Taken, heard, missed, unsettled, taken}
@@ -18,9 +19,10 @@ pub record Reading : Type 0 where
   pub lastBefore : ℕ → ℕ
   pub became : ℕ → Taken
 
--- The reading of a score's durations under the events heard.
-unfoldable pub readingOf : List ℕ → List ℕ → Reading
-readingOf ds D = record { start = E ds; lastBefore = lastBy ds; became = taken D }
+-- The reading of a score's durations under the events heard, on the terms of the opening: those that the rules ask for. They ask for none of them, since part
+-- bits and tempo move no triple.
+unfoldable pub readingOf : Terms → (durations heard : List ℕ) → Reading
+readingOf terms ds D = record { start = E ds; lastBefore = lastBy ds; became = taken D }
 
 abbrev pub grains : ℕ → Grains
 grains t = record { 0 = t }
@@ -28,6 +30,10 @@ grains t = record { 0 = t }
 -- "the items starting before E(j) are past, the others future"
 unfoldable pub past : Reading → (j t : ℕ) → Bool
 past R j t = ltb t (R .start j)
+
+-- "their dates less E(j)": the date that a future item has where it is heard at j, by its own date. It keeps it.
+unfoldable pub futureDate : Reading → (j t : ℕ) → ℕ
+futureDate R j t = t
 
 -- "Missed, global: the whole group is heard at j with delay 0": so it starts at E(j), wherever it was to start itself.
 unfoldable pub globalStart : Reading → (j own : ℕ) → ℕ
@@ -39,8 +45,8 @@ globalStart R j own = R .start j
 unfoldable pub missedFate : Reading → ErrorWord → (j b s : ℕ) → (ℕ → Fate) → Fate
 missedFate R local j b s hear = nothing
 missedFate R global j b s hear = hear (globalStart R j b + s)
-missedFate R partial j b s hear = pick (past R j (b + s)) (groupsOnly j (grains (b + s))) (hear (b + s))
-missedFate R causal j b s hear = pick (past R j (b + s)) (missedBy j (grains (b + s))) (hear (b + s))
+missedFate R partial j b s hear = pick (past R j (b + s)) (groupsOnly j (grains (b + s))) (hear (futureDate R j (b + s)))
+missedFate R causal j b s hear = pick (past R j (b + s)) (missedBy j (grains (b + s))) (hear (futureDate R j (b + s)))
 
 -- Heard at an event, at a date.
 abbrev pub loosely : ℕ → ℕ → Fate
@@ -107,13 +113,13 @@ run R h s (action d m p rest) = line p m (outcomeOf R (fateOf R h (s + d))) ∷ 
 run R h s (group d y e body rest) = run R (enter (fateOf R h (s + d)) y e) 0 body ++ run R h (s + d) rest
 
 -- A part's sequence at event i runs as a loose group does: heard, or missed item by item.
-unfoldable pub top : Reading → ℕ → Taken → Holder
-top R i heard = heardGroup loose local i (R .start i)
-top R i (missed j) = missedTop j (R .start i)
-top R i unsettled = waiting
+unfoldable pub topHolder : Reading → ℕ → Taken → Holder
+topHolder R i heard = heardGroup loose local i (R .start i)
+topHolder R i (missed j) = missedTop j (R .start i)
+topHolder R i unsettled = waiting
 
 unfoldable pub perform : Reading → ℕ → Seq → List Line
-perform R i x = run R (top R i (R .became i)) 0 x
+perform R i x = run R (topHolder R i (R .became i)) 0 x
 
 -- "Each rule yields triples (event, delay, message), one for each written action it plays, kept apart even where two are alike"
 pub data Triple : Type 0 where

@@ -2,9 +2,7 @@
 use mathlib.Core.Path.{_≡_}
 use Prim.Native.Nat.{ℕ, _<_}
 use mathlib.Core.List.{List, [], _∷_}
-use lib.Dec.{eqb}
-use Rattle.base.specs.Tests.{pick}
-use Rattle.rules.specs.Rules.{Outcome, played, dropped, undecided, Line, line, Triple, triple}
+use Rattle.rules.specs.Rules.{Outcome, played, dropped, undecided, Line, line}
 use Rattle.rules.specs.Page.{Cue}
 
 -- h comes after each event of D.
@@ -33,8 +31,3 @@ pub data SettledCues (h : ℕ) : List Cue → List Cue → Type 0 where
   no-cues : SettledCues h [] []
   settled-cue : {a p m : ℕ} {o u : Outcome} {l k : List Cue} → Settles h o u → SettledCues h l k →
       SettledCues h (record { place = a; part = p; message = m; outcome = o } ∷ l) (record { place = a; part = p; message = m; outcome = u } ∷ k)
-
--- The triples at other events than h.
-unfoldable pub others : ℕ → List Triple → List Triple
-others h [] = []
-others h (triple i d m ∷ l) = pick (eqb i h) (others h l) (triple i d m ∷ others h l)

@@ -4,14 +4,19 @@ use mathlib.Core.Path.{_≡_, refl}
 use Prim.Native.Nat.{ℕ}
 use mathlib.Core.List.{List, [], _∷_, map}
 use Rattle.base.specs.Tests.{pick}
+use Rattle.rules.specs.Terms.{Terms}
 use Rattle.rules.specs.Words.{Synchrony, loose, tight, ErrorWord, local, global, partial, causal}
 use Rattle.rules.specs.Score.{Seq, end, action, group, total, E, more, lastBy}
 use Rattle.rules.specs.Heard.{taken}
-use Rattle.rules.specs.Rules.{Triple, triple, triples, keep, perform, top, run, enter, outcomeOf, fateOf, heardFate, slicedFate, missedFate, globalStart, past, readingOf}
+use Rattle.rules.specs.Rules.{Triple, triple, triples, keep, perform, topHolder, run, enter, outcomeOf, fateOf, heardFate, slicedFate, missedFate, globalStart, past, futureDate, readingOf}
 
 -- "Events of 2, 1 and 1 beats"
 abbrev pub events : List ℕ
 events = 10080 ∷ 5040 ∷ 5040 ∷ []
+
+-- The terms of the opening: all parts, at 60 beats a minute.
+abbrev pub terms : Terms
+terms = record { parts = 65535; tempo = 5040 }
 
 abbrev pub a : ℕ
 a = 0
@@ -65,12 +70,12 @@ small =
 
 -- "Under event 1 one group, delay 0": what the rules give, for each of a row's error words, and what the row wants of them.
 unfoldable pub given : Row → List (List Triple)
-given (row y es body D l) = map (λ e. triples (perform (readingOf events D) 1 (group 0 y e body end))) es
+given (row y es body D l) = map (λ e. triples (perform (readingOf terms events D) 1 (group 0 y e body end))) es
 
 unfoldable pub wanted : Row → List (List Triple)
 wanted (row y es body D l) = map (λ e. l) es
 
 -- P1 to P12.
 pub small-scores-right : map given small ≡ map wanted small
-unfolding given wanted triples keep perform top run enter outcomeOf fateOf heardFate slicedFate missedFate globalStart past readingOf taken lastBy more E total pick
+unfolding given wanted triples keep perform topHolder run enter outcomeOf fateOf heardFate slicedFate missedFate globalStart past futureDate readingOf taken lastBy more E total pick
 small-scores-right = refl

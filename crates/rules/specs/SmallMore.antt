@@ -2,16 +2,15 @@
 -- Assumes nothing.
 use mathlib.Core.Path.{_≡_, refl}
 use Prim.Native.Nat.{ℕ}
-use mathlib.Core.List.{List, [], _∷_, _++_, map}
-use lib.ListN.{length, take, drop}
+use mathlib.Core.List.{List, [], _∷_, map}
 use Rattle.page.specs.declared.Item.{Item}
 use Rattle.base.specs.Tests.{pick}
-use Rattle.rules.specs.Words.{Synchrony, loose, tight, ErrorWord, local, global, partial, causal, synchronyOf, errorOf}
+use Rattle.rules.specs.Words.{loose, tight, local, global, partial, causal, synchronyOf, errorOf}
 use Rattle.rules.specs.Score.{Seq, end, action, group, total, E, more, lastBy}
 use Rattle.rules.specs.Heard.{taken}
-use Rattle.rules.specs.Rules.{Outcome, played, dropped, undecided, Line, line, Triple, triple, triples, keep, perform, top, run, enter, outcomeOf, fateOf, heardFate, slicedFate, missedFate, globalStart, past, readingOf}
+use Rattle.rules.specs.Rules.{Outcome, played, dropped, undecided, Line, line, Triple, triple, triples, keep, perform, topHolder, run, enter, outcomeOf, fateOf, heardFate, slicedFate, missedFate, globalStart, past, futureDate, readingOf}
 use Rattle.rules.specs.Page.{Cue, cues, cast, entries, entriesOf, runLength, goesOn, sequenceOf}
-use Rattle.rules.specs.Small.{events, a, b}
+use Rattle.rules.specs.Small.{terms, events, a, b}
 
 abbrev pub c : ℕ
 c = 2
@@ -35,8 +34,8 @@ abbrev pub five : List ℕ
 five = 5040 ∷ 5040 ∷ 5040 ∷ 5040 ∷ 5040 ∷ []
 
 -- "kind, synchrony, error word, part, delay, event, last": one line of the item table.
-abbrev pub written : (kind synchrony error part delay event last : ℕ) → Item
-written k y x p g i l = record { kind = k; synchrony = y; error = x; part = p; delay = record { 0 = g }; event = i; last = l }
+abbrev pub itemOf : (kind synchrony error part delay event last : ℕ) → Item
+itemOf k y x p g i l = record { kind = k; synchrony = y; error = x; part = p; delay = record { 0 = g }; event = i; last = l }
 
 -- A written action with its page place, its part and its message, and what becomes of it.
 abbrev pub cue : (place part message : ℕ) → Outcome → Cue
@@ -44,12 +43,12 @@ cue a p m o = record { place = a; part = p; message = m; outcome = o }
 
 -- The events' durations; one part's sequence under an event; the events heard; the triples; and, where it is said, the actions of which nothing is known
 -- yet: everywhere else each action is played or dropped. Or the events' durations, a whole page, the events heard, and what becomes of each action.
-pub data Row : Type 0 where
-  under : List ℕ → ℕ → Seq → List ℕ → List Triple → Row
-  under-yet : List ℕ → ℕ → Seq → List ℕ → List Triple → List ℕ → Row
-  page : List ℕ → List Item → List ℕ → List Cue → Row
+pub data Example : Type 0 where
+  under : List ℕ → ℕ → Seq → List ℕ → List Triple → Example
+  under-yet : List ℕ → ℕ → Seq → List ℕ → List Triple → List ℕ → Example
+  page : List ℕ → List Item → List ℕ → List Cue → Example
 
-abbrev pub more-small : List Row
+abbrev pub more-small : List Example
 more-small =
     -- Q1: "Delays add up along a sequence; a group's own delay counts for what follows it, its body's delays don't." a at 5040. The group at 5040 + 2520 = 7560, so
     -- b at 7560 + 3780 = 11340. c at 7560 + 1260 = 8820.
@@ -62,12 +61,12 @@ more-small =
     -- Q4: "Each part has its own sequence at each event". Part 0 at event 1: a at 5040, its group at 7560, b at 7560 + 1260 = 8820. Part 1 at event 1 begins anew: c at
     -- 2520, d at 2520 + 1260 = 3780. Part 1 at event 2 begins anew: e at 630.
     ∷ page events
-    (written 0 0 0 0 5040 1 a
-    ∷ written 1 0 0 0 2520 1 1
-    ∷ written 0 0 0 0 1260 0 b
-    ∷ written 0 0 0 1 2520 1 c
-    ∷ written 0 0 0 1 1260 1 d
-    ∷ written 0 0 0 1 630 2 e
+    (itemOf 0 0 0 0 5040 1 a
+    ∷ itemOf 1 0 0 0 2520 1 1
+    ∷ itemOf 0 0 0 0 1260 0 b
+    ∷ itemOf 0 0 0 1 2520 1 c
+    ∷ itemOf 0 0 0 1 1260 1 d
+    ∷ itemOf 0 0 0 1 630 2 e
     ∷ [])
     (1 ∷ 2 ∷ [])
     (cue 0 0 a (played 1 5040)
@@ -79,30 +78,30 @@ more-small =
     -- Q5: "depth 8 is accepted": seven groups, one within the other, and a within them, each after an eighth of a beat: a at 8 * 630 = 5040. b follows the outermost
     -- group, at 630 + 630 = 1260.
     ∷ page events
-    (written 1 0 0 0 630 1 7
-    ∷ written 1 0 0 0 630 0 6
-    ∷ written 1 0 0 0 630 0 5
-    ∷ written 1 0 0 0 630 0 4
-    ∷ written 1 0 0 0 630 0 3
-    ∷ written 1 0 0 0 630 0 2
-    ∷ written 1 0 0 0 630 0 1
-    ∷ written 0 0 0 0 630 0 a
-    ∷ written 0 0 0 0 630 1 b
+    (itemOf 1 0 0 0 630 1 7
+    ∷ itemOf 1 0 0 0 630 0 6
+    ∷ itemOf 1 0 0 0 630 0 5
+    ∷ itemOf 1 0 0 0 630 0 4
+    ∷ itemOf 1 0 0 0 630 0 3
+    ∷ itemOf 1 0 0 0 630 0 2
+    ∷ itemOf 1 0 0 0 630 0 1
+    ∷ itemOf 0 0 0 0 630 0 a
+    ∷ itemOf 0 0 0 0 630 1 b
     ∷ [])
     (1 ∷ []) (cue 7 0 a (played 1 5040) ∷ cue 8 0 b (played 1 1260) ∷ [])
     -- Q6: each word by its number, in part 3, all groups at 0 under event 1, which is missed; M(1) = 2. Local (0): a is dropped. Global (1): b at 5040 on 2. Partial (2): c at
     -- 12600 is future, 2520. Causal (3): d at 5040 is past, 0. Tight (1) and global: heard at 2 with delay 0, e has the date 10080 + 5040 = 15120 = E(3): to 3, at 0.
     ∷ page events
-    (written 1 0 0 3 0 1 1
-    ∷ written 0 0 0 3 5040 0 a
-    ∷ written 1 0 1 3 0 1 1
-    ∷ written 0 0 0 3 5040 0 b
-    ∷ written 1 0 2 3 0 1 1
-    ∷ written 0 0 0 3 12600 0 c
-    ∷ written 1 0 3 3 0 1 1
-    ∷ written 0 0 0 3 5040 0 d
-    ∷ written 1 1 1 3 0 1 1
-    ∷ written 0 0 0 3 5040 0 e
+    (itemOf 1 0 0 3 0 1 1
+    ∷ itemOf 0 0 0 3 5040 0 a
+    ∷ itemOf 1 0 1 3 0 1 1
+    ∷ itemOf 0 0 0 3 5040 0 b
+    ∷ itemOf 1 0 2 3 0 1 1
+    ∷ itemOf 0 0 0 3 12600 0 c
+    ∷ itemOf 1 0 3 3 0 1 1
+    ∷ itemOf 0 0 0 3 5040 0 d
+    ∷ itemOf 1 1 1 3 0 1 1
+    ∷ itemOf 0 0 0 3 5040 0 e
     ∷ [])
     (2 ∷ 3 ∷ [])
     (cue 1 3 a dropped ∷ cue 3 3 b (played 2 5040) ∷ cue 5 3 c (played 2 2520) ∷ cue 7 3 d (played 2 0) ∷ cue 9 3 e (played 3 0) ∷ [])
@@ -212,34 +211,34 @@ more-small =
     ∷ []
 
 -- The messages of the actions of which nothing is known yet.
-unfoldable pub wait : Outcome → ℕ → List ℕ → List ℕ
-wait (played i t) m r = r
-wait dropped m r = r
-wait undecided m r = m ∷ r
+unfoldable pub ifUndecided : Outcome → ℕ → List ℕ → List ℕ
+ifUndecided (played i t) m r = r
+ifUndecided dropped m r = r
+ifUndecided undecided m r = m ∷ r
 
-unfoldable pub waits : List Line → List ℕ
-waits [] = []
-waits (line p m o ∷ l) = wait o m (waits l)
+unfoldable pub undecidedIn : List Line → List ℕ
+undecidedIn [] = []
+undecidedIn (line p m o ∷ l) = ifUndecided o m (undecidedIn l)
 
 -- What the rules give, and what a row wants of them.
-pub data Told : Type 0 where
-  of-sequence : List Triple → List ℕ → Told
-  of-page : List Cue → Told
+pub data Result : Type 0 where
+  of-sequence : List Triple → List ℕ → Result
+  of-page : List Cue → Result
 
-unfoldable pub told : List Line → Told
-told l = of-sequence (triples l) (waits l)
+unfoldable pub resultOf : List Line → Result
+resultOf l = of-sequence (triples l) (undecidedIn l)
 
-unfoldable pub given : Row → Told
-given (under ds i x D l) = told (perform (readingOf ds D) i x)
-given (under-yet ds i x D l w) = told (perform (readingOf ds D) i x)
-given (page ds is D l) = of-page (cues (readingOf ds D) (entries is))
+unfoldable pub exampleGives : Example → Result
+exampleGives (under ds i x D l) = resultOf (perform (readingOf terms ds D) i x)
+exampleGives (under-yet ds i x D l w) = resultOf (perform (readingOf terms ds D) i x)
+exampleGives (page ds is D l) = of-page (cues (readingOf terms ds D) (entries is))
 
-unfoldable pub wanted : Row → Told
-wanted (under ds i x D l) = of-sequence l []
-wanted (under-yet ds i x D l w) = of-sequence l w
-wanted (page ds is D l) = of-page l
+unfoldable pub exampleWants : Example → Result
+exampleWants (under ds i x D l) = of-sequence l []
+exampleWants (under-yet ds i x D l w) = of-sequence l w
+exampleWants (page ds is D l) = of-page l
 
 -- Q1 to Q32.
-pub more-small-scores-right : map given more-small ≡ map wanted more-small
-unfolding given wanted told wait waits triples keep perform top run enter outcomeOf fateOf heardFate slicedFate missedFate globalStart past readingOf taken lastBy more E total pick cues cast entries entriesOf runLength goesOn sequenceOf synchronyOf errorOf
+pub more-small-scores-right : map exampleGives more-small ≡ map exampleWants more-small
+unfolding exampleGives exampleWants resultOf ifUndecided undecidedIn triples keep perform topHolder run enter outcomeOf fateOf heardFate slicedFate missedFate globalStart past futureDate readingOf taken lastBy more E total pick cues cast entries entriesOf runLength goesOn sequenceOf synchronyOf errorOf
 more-small-scores-right = refl

@@ -4,9 +4,6 @@ use Rattle.evaluators.proofs.RunLaws.{going}
 use Rattle.evaluators.proofs.runs.goes_on.Statement.{statement}
 use Rattle.evaluators.proofs.runs.goes_on.Tie as tie
 
-item-in-requires : tie.Need-item-in-requires
-item-in-requires c κs = search going
-
 returns : tie.Need-returns
 returns c = search going
 
@@ -17,4 +14,4 @@ returns-3 : tie.Need-returns-3
 returns-3 c = search going
 
 pub goes-on-spec : {M : Type 1} → statement M
-goes-on-spec = tie.close (tie.spec item-in-requires returns returns-2 returns-3)
+goes-on-spec = tie.close (tie.spec (λ c κs. search going) returns returns-2 returns-3)

@@ -18,12 +18,12 @@ use Rattle.evaluators.proofs.walk.+heard_body+item+missed_body+still_bo
 use Rattle.evaluators.proofs.walk.within.Reads as within
 use Rattle.evaluators.proofs.walk.within.Kinds as within-kinds
 use Rattle.evaluators.proofs.walk.+heard_body+item+missed_body+still_body+within.Lts-within as within-lts
-use Rattle.evaluators.proofs.fates.heard_fate.Reads as heard-fate-reads
-use Rattle.evaluators.proofs.fates.missed_fate.Reads as missed-fate-reads
-use Rattle.evaluators.proofs.outcomes.leave.Reads as leave-reads
+use Rattle.fates.proofs.items.heard_fate.Reads as heard-fate-reads
+use Rattle.fates.proofs.items.missed_fate.Reads as missed-fate-reads
+use Rattle.fates.proofs.outcomes.leave.Reads as leave-reads
 use Rattle.evaluators.proofs.walk.extent.Reads as extent-reads
-use Rattle.evaluators.proofs.words.delay_in.Reads as delay-in-reads
-use Rattle.evaluators.proofs.words.item_in.Reads as item-in-reads
+use Rattle.fates.proofs.words.delay_in.Reads as delay-in-reads
+use Rattle.fates.proofs.words.item_in.Reads as item-in-reads
 use Rattle.rules.proofs.error_of.Reads as error-of-reads
 use Rattle.rules.proofs.synchrony_of.Reads as synchrony-of-reads
 use Rattle.evaluators.proofs.walk.+heard_body+item+missed_body+still_body+within.{statement}
@@ -127,39 +127,6 @@ still-body-claims t = (item-below t, item.Post)
 abbrev within-claims : ℕ → within-lts.Claims
 within-claims t = (heard-body-below t, heard-body.Post, missed-body-below t, missed-body.Post, still-body-below t, still-body.Post)
 
-heard-body-loop-holds : (t : ℕ) → heard-body-lts.Need-loop-holds (heard-body-claims t) (heard-body-at t) heard-body.Post heard-body-Inv-loop heard-body-μ-loop
-heard-body-loop-holds t c = (omega arith, search bodies, omega arith, omega arith, omega arith, search bodies)
-
-heard-body-add-from : (t : ℕ) → heard-body-lts.Need-add-from (heard-body-claims t) (heard-body-at t) heard-body.Post heard-body-Inv-loop heard-body-μ-loop
-heard-body-add-from t c = search bodies
-
-heard-body-mul-w : (t : ℕ) → heard-body-lts.Need-mul-w (heard-body-claims t) (heard-body-at t) heard-body.Post heard-body-Inv-loop heard-body-μ-loop
-heard-body-mul-w t c = search bodies
-
-heard-body-slice-read-w : (t : ℕ) → heard-body-lts.Need-slice-read-w (heard-body-claims t) (heard-body-at t) heard-body.Post heard-body-Inv-loop heard-body-μ-loop
-heard-body-slice-read-w t c = search bodies
-
-heard-body-delay-in-requires : (t : ℕ) → heard-body-lts.Need-delay-in-requires (heard-body-claims t) (heard-body-at t) heard-body.Post heard-body-Inv-loop heard-body-μ-loop
-heard-body-delay-in-requires t c = search bodies
-
-heard-body-add-t20 : (t : ℕ) → heard-body-lts.Need-add-t20 (heard-body-claims t) (heard-body-at t) heard-body.Post heard-body-Inv-loop heard-body-μ-loop
-heard-body-add-t20 t c = search bodies
-
-heard-body-heard-fate-requires : (t : ℕ) → heard-body-lts.Need-heard-fate-requires (heard-body-claims t) (heard-body-at t) heard-body.Post heard-body-Inv-loop heard-body-μ-loop
-heard-body-heard-fate-requires t c = search bodies
-
-heard-body-item-requires : (t : ℕ) → heard-body-lts.Need-item-requires (heard-body-claims t) (heard-body-at t) heard-body.Post heard-body-Inv-loop heard-body-μ-loop
-heard-body-item-requires t c = λ κs. (omega arith, search bodies)
-
-heard-body-add-place : (t : ℕ) → heard-body-lts.Need-add-place (heard-body-claims t) (heard-body-at t) heard-body.Post heard-body-Inv-loop heard-body-μ-loop
-heard-body-add-place t c = search bodies
-
-heard-body-sub-left : (t : ℕ) → heard-body-lts.Need-sub-left (heard-body-claims t) (heard-body-at t) heard-body.Post heard-body-Inv-loop heard-body-μ-loop
-heard-body-sub-left t c = search bodies
-
-heard-body-loop-less : (t : ℕ) → heard-body-lts.Need-loop-less (heard-body-claims t) (heard-body-at t) heard-body.Post heard-body-Inv-loop heard-body-μ-loop
-heard-body-loop-less t c = search bodies
-
 heard-body-loop-again : (t : ℕ) → heard-body-lts.Need-loop-again (heard-body-claims t) (heard-body-at t) heard-body.Post heard-body-Inv-loop heard-body-μ-loop
 heard-body-loop-again t c =
     let ran = c .before .before in
@@ -169,74 +136,17 @@ heard-body-loop-again t c =
     let inv = at .before .loop .inv in
     (omega arith, search (lent-on, ran .item .ensures, inv .1), omega arith, omega arith, omega arith, search (heard-step, ran .item .ensures, told .heard-fate .ensures .0, read .delay-in .ensures .0, at .loop-test .taken, inv .1, inv .4, inv .5))
 
-heard-body-same-length : (t : ℕ) → heard-body-lts.Need-same-length (heard-body-claims t) (heard-body-at t) heard-body.Post heard-body-Inv-loop heard-body-μ-loop
-heard-body-same-length t c = search bodies
-
-heard-body-returns : (t : ℕ) → heard-body-lts.Need-returns (heard-body-claims t) (heard-body-at t) heard-body.Post heard-body-Inv-loop heard-body-μ-loop
-heard-body-returns t c = search bodies
-
-item-item-in-requires : (t : ℕ) → item-lts.Need-item-in-requires (item-claims t) (item-at t) item.Post
-item-item-in-requires t c = search items
-
-item-leave-requires : (t : ℕ) → item-lts.Need-leave-requires (item-claims t) (item-at t) item.Post
-item-leave-requires t c = search items
-
-item-same-length : (t : ℕ) → item-lts.Need-same-length (item-claims t) (item-at t) item.Post
-item-same-length t c = search items
-
 item-returns : (t : ℕ) → item-lts.Need-returns (item-claims t) (item-at t) item.Post
 item-returns t c = search items
-
-item-sub-extent : (t : ℕ) → item-lts.Need-sub-extent (item-claims t) (item-at t) item.Post
-item-sub-extent t c = search items
-
-item-extent-requires : (t : ℕ) → item-lts.Need-extent-requires (item-claims t) (item-at t) item.Post
-item-extent-requires t c = search items
-
-item-add-size : (t : ℕ) → item-lts.Need-add-size (item-claims t) (item-at t) item.Post
-item-add-size t c = search items
 
 item-returns-2 : (t : ℕ) → item-lts.Need-returns-2 (item-claims t) (item-at t) item.Post
 item-returns-2 t c = search items
 
-item-synchrony-of-requires : (t : ℕ) → item-lts.Need-synchrony-of-requires (item-claims t) (item-at t) item.Post
-item-synchrony-of-requires t c = search items
-
-item-error-of-requires : (t : ℕ) → item-lts.Need-error-of-requires (item-claims t) (item-at t) item.Post
-item-error-of-requires t c = search items
-
-item-sub-within : (t : ℕ) → item-lts.Need-sub-within (item-claims t) (item-at t) item.Post
-item-sub-within t c = search items
-
-item-add-within : (t : ℕ) → item-lts.Need-add-within (item-claims t) (item-at t) item.Post
-item-add-within t c = search items
-
 item-within-requires : (t : ℕ) → item-lts.Need-within-requires (item-claims t) (item-at t) item.Post
 item-within-requires t c = λ κs. (omega arith, search items)
 
-item-same-length-2 : (t : ℕ) → item-lts.Need-same-length-2 (item-claims t) (item-at t) item.Post
-item-same-length-2 t c = search items
-
 item-returns-3 : (t : ℕ) → item-lts.Need-returns-3 (item-claims t) (item-at t) item.Post
 item-returns-3 t c = search items
-
-missed-body-loop-holds : (t : ℕ) → missed-body-lts.Need-loop-holds (missed-body-claims t) (missed-body-at t) missed-body.Post missed-body-Inv-loop missed-body-μ-loop
-missed-body-loop-holds t c = search bodies
-
-missed-body-add-from : (t : ℕ) → missed-body-lts.Need-add-from (missed-body-claims t) (missed-body-at t) missed-body.Post missed-body-Inv-loop missed-body-μ-loop
-missed-body-add-from t c = search bodies
-
-missed-body-mul-w : (t : ℕ) → missed-body-lts.Need-mul-w (missed-body-claims t) (missed-body-at t) missed-body.Post missed-body-Inv-loop missed-body-μ-loop
-missed-body-mul-w t c = search bodies
-
-missed-body-slice-read-w : (t : ℕ) → missed-body-lts.Need-slice-read-w (missed-body-claims t) (missed-body-at t) missed-body.Post missed-body-Inv-loop missed-body-μ-loop
-missed-body-slice-read-w t c = search bodies
-
-missed-body-delay-in-requires : (t : ℕ) → missed-body-lts.Need-delay-in-requires (missed-body-claims t) (missed-body-at t) missed-body.Post missed-body-Inv-loop missed-body-μ-loop
-missed-body-delay-in-requires t c = search bodies
-
-missed-body-add-t20 : (t : ℕ) → missed-body-lts.Need-add-t20 (missed-body-claims t) (missed-body-at t) missed-body.Post missed-body-Inv-loop missed-body-μ-loop
-missed-body-add-t20 t c = search bodies
 
 missed-body-missed-fate-requires : (t : ℕ) → missed-body-lts.Need-missed-fate-requires (missed-body-claims t) (missed-body-at t) missed-body.Post missed-body-Inv-loop missed-body-μ-loop
 missed-body-missed-fate-requires t c = search bodies
@@ -244,122 +154,45 @@ missed-body-missed-fate-requires t c = search bodies
 missed-body-item-requires : (t : ℕ) → missed-body-lts.Need-item-requires (missed-body-claims t) (missed-body-at t) missed-body.Post missed-body-Inv-loop missed-body-μ-loop
 missed-body-item-requires t c = λ κs. (omega arith, search bodies)
 
-missed-body-add-place : (t : ℕ) → missed-body-lts.Need-add-place (missed-body-claims t) (missed-body-at t) missed-body.Post missed-body-Inv-loop missed-body-μ-loop
-missed-body-add-place t c = search bodies
-
-missed-body-sub-left : (t : ℕ) → missed-body-lts.Need-sub-left (missed-body-claims t) (missed-body-at t) missed-body.Post missed-body-Inv-loop missed-body-μ-loop
-missed-body-sub-left t c = search bodies
-
-missed-body-loop-less : (t : ℕ) → missed-body-lts.Need-loop-less (missed-body-claims t) (missed-body-at t) missed-body.Post missed-body-Inv-loop missed-body-μ-loop
-missed-body-loop-less t c = search bodies
-
 missed-body-loop-again : (t : ℕ) → missed-body-lts.Need-loop-again (missed-body-claims t) (missed-body-at t) missed-body.Post missed-body-Inv-loop missed-body-μ-loop
 missed-body-loop-again t c = (omega arith, search lent-on, omega arith, omega arith, search missed-step)
-
-missed-body-same-length : (t : ℕ) → missed-body-lts.Need-same-length (missed-body-claims t) (missed-body-at t) missed-body.Post missed-body-Inv-loop missed-body-μ-loop
-missed-body-same-length t c = search bodies
 
 missed-body-returns : (t : ℕ) → missed-body-lts.Need-returns (missed-body-claims t) (missed-body-at t) missed-body.Post missed-body-Inv-loop missed-body-μ-loop
 missed-body-returns t c = search bodies
 
-still-body-loop-holds : (t : ℕ) → still-body-lts.Need-loop-holds (still-body-claims t) (still-body-at t) still-body.Post still-body-Inv-loop still-body-μ-loop
-still-body-loop-holds t c = search bodies
+heard-body-spec : {M : Type 1} (t : ℕ) → heard-body-lts.Closed (heard-body-claims t) (heard-body-at t) heard-body.Post M
+heard-body-spec t =
+    heard-body-lts.spec (heard-body-claims t) (heard-body-at t) heard-body.Post heard-body-Inv-loop heard-body-μ-loop
+    (λ c. (omega arith, search bodies, omega arith, omega arith, omega arith, search bodies)) (λ c. search bodies) (λ c. search bodies) (λ c. search bodies)
+    (λ c. search bodies) (λ c. search bodies) (λ c. search bodies) (λ c κs. (omega arith, search bodies)) (λ c. search bodies) (λ c. search bodies)
+    (λ c. search bodies) (heard-body-loop-again t) (λ c. search bodies) (λ c. search bodies)
 
-still-body-add-from : (t : ℕ) → still-body-lts.Need-add-from (still-body-claims t) (still-body-at t) still-body.Post still-body-Inv-loop still-body-μ-loop
-still-body-add-from t c = search bodies
+item-spec : {M : Type 1} (t : ℕ) → item-lts.Closed (item-claims t) (item-at t) item.Post M
+item-spec t =
+    item-lts.spec (item-claims t) (item-at t) item.Post (λ c. search items) (λ c. search items) (λ c. search items) (item-returns t) (λ c. search items)
+    (λ c. search items) (λ c. search items) (item-returns-2 t) (λ c. search items) (λ c. search items) (λ c. search items) (λ c. search items)
+    (item-within-requires t) (λ c. search items) (item-returns-3 t)
 
-still-body-mul-w : (t : ℕ) → still-body-lts.Need-mul-w (still-body-claims t) (still-body-at t) still-body.Post still-body-Inv-loop still-body-μ-loop
-still-body-mul-w t c = search bodies
+missed-body-spec : {M : Type 1} (t : ℕ) → missed-body-lts.Closed (missed-body-claims t) (missed-body-at t) missed-body.Post M
+missed-body-spec t =
+    missed-body-lts.spec (missed-body-claims t) (missed-body-at t) missed-body.Post missed-body-Inv-loop missed-body-μ-loop (λ c. search bodies)
+    (λ c. search bodies) (λ c. search bodies) (λ c. search bodies) (λ c. search bodies) (λ c. search bodies) (missed-body-missed-fate-requires t)
+    (missed-body-item-requires t) (λ c. search bodies) (λ c. search bodies) (λ c. search bodies) (missed-body-loop-again t) (λ c. search bodies)
+    (missed-body-returns t)
 
-still-body-slice-read-w : (t : ℕ) → still-body-lts.Need-slice-read-w (still-body-claims t) (still-body-at t) still-body.Post still-body-Inv-loop still-body-μ-loop
-still-body-slice-read-w t c = search bodies
+still-body-spec : {M : Type 1} (t : ℕ) → still-body-lts.Closed (still-body-claims t) (still-body-at t) still-body.Post M
+still-body-spec t =
+    still-body-lts.spec (still-body-claims t) (still-body-at t) still-body.Post still-body-Inv-loop still-body-μ-loop (λ c. search bodies) (λ c. search bodies)
+    (λ c. search bodies) (λ c. search bodies) (λ c κs. (omega arith, search bodies)) (λ c. search bodies) (λ c. search bodies) (λ c. search bodies)
+    (λ c. (omega arith, search lent-on, omega arith, search still-step)) (λ c. search bodies) (λ c. search bodies)
 
-still-body-item-requires : (t : ℕ) → still-body-lts.Need-item-requires (still-body-claims t) (still-body-at t) still-body.Post still-body-Inv-loop still-body-μ-loop
-still-body-item-requires t c = λ κs. (omega arith, search bodies)
-
-still-body-add-place : (t : ℕ) → still-body-lts.Need-add-place (still-body-claims t) (still-body-at t) still-body.Post still-body-Inv-loop still-body-μ-loop
-still-body-add-place t c = search bodies
-
-still-body-sub-left : (t : ℕ) → still-body-lts.Need-sub-left (still-body-claims t) (still-body-at t) still-body.Post still-body-Inv-loop still-body-μ-loop
-still-body-sub-left t c = search bodies
-
-still-body-loop-less : (t : ℕ) → still-body-lts.Need-loop-less (still-body-claims t) (still-body-at t) still-body.Post still-body-Inv-loop still-body-μ-loop
-still-body-loop-less t c = search bodies
-
-still-body-loop-again : (t : ℕ) → still-body-lts.Need-loop-again (still-body-claims t) (still-body-at t) still-body.Post still-body-Inv-loop still-body-μ-loop
-still-body-loop-again t c = (omega arith, search lent-on, omega arith, search still-step)
-
-still-body-same-length : (t : ℕ) → still-body-lts.Need-same-length (still-body-claims t) (still-body-at t) still-body.Post still-body-Inv-loop still-body-μ-loop
-still-body-same-length t c = search bodies
-
-still-body-returns : (t : ℕ) → still-body-lts.Need-returns (still-body-claims t) (still-body-at t) still-body.Post still-body-Inv-loop still-body-μ-loop
-still-body-returns t c = search bodies
-
-within-enum-known-f : (t : ℕ) → within-lts.Need-enum-known-f (within-claims t) (within-at t) within.Post
-within-enum-known-f t c = search fates
-
-within-heard-body-requires : (t : ℕ) → within-lts.Need-heard-body-requires (within-claims t) (within-at t) within.Post
-within-heard-body-requires t c = λ κs. (omega arith, search fates)
-
-within-enum-known-f-2 : (t : ℕ) → within-lts.Need-enum-known-f-2 (within-claims t) (within-at t) within.Post
-within-enum-known-f-2 t c = search fates
-
-within-missed-body-requires : (t : ℕ) → within-lts.Need-missed-body-requires (within-claims t) (within-at t) within.Post
-within-missed-body-requires t c = λ κs. (omega arith, search fates)
-
-within-enum-known-f-3 : (t : ℕ) → within-lts.Need-enum-known-f-3 (within-claims t) (within-at t) within.Post
-within-enum-known-f-3 t c = search fates
-
-within-missed-body-requires-2 : (t : ℕ) → within-lts.Need-missed-body-requires-2 (within-claims t) (within-at t) within.Post
-within-missed-body-requires-2 t c = λ κs. (omega arith, search fates)
-
-within-enum-told : (t : ℕ) → within-lts.Need-enum-told (within-claims t) (within-at t) within.Post
-within-enum-told t c = search fates
-
-within-still-body-requires : (t : ℕ) → within-lts.Need-still-body-requires (within-claims t) (within-at t) within.Post
-within-still-body-requires t c = λ κs. (omega arith, search fates)
-
-within-enum-told-2 : (t : ℕ) → within-lts.Need-enum-told-2 (within-claims t) (within-at t) within.Post
-within-enum-told-2 t c = search fates
-
-within-still-body-requires-2 : (t : ℕ) → within-lts.Need-still-body-requires-2 (within-claims t) (within-at t) within.Post
-within-still-body-requires-2 t c = λ κs. (omega arith, search fates)
-
-within-same-length : (t : ℕ) → within-lts.Need-same-length (within-claims t) (within-at t) within.Post
-within-same-length t c = search fates
-
-within-returns : (t : ℕ) → within-lts.Need-returns (within-claims t) (within-at t) within.Post
-within-returns t c = search fates
-
-within-same-length-2 : (t : ℕ) → within-lts.Need-same-length-2 (within-claims t) (within-at t) within.Post
-within-same-length-2 t c = search fates
-
-within-returns-2 : (t : ℕ) → within-lts.Need-returns-2 (within-claims t) (within-at t) within.Post
-within-returns-2 t c = search fates
-
-within-same-length-3 : (t : ℕ) → within-lts.Need-same-length-3 (within-claims t) (within-at t) within.Post
-within-same-length-3 t c = search fates
-
-within-returns-3 : (t : ℕ) → within-lts.Need-returns-3 (within-claims t) (within-at t) within.Post
-within-returns-3 t c = search fates
-
-within-same-length-4 : (t : ℕ) → within-lts.Need-same-length-4 (within-claims t) (within-at t) within.Post
-within-same-length-4 t c = search fates
-
-within-returns-4 : (t : ℕ) → within-lts.Need-returns-4 (within-claims t) (within-at t) within.Post
-within-returns-4 t c = search fates
-
-within-same-length-5 : (t : ℕ) → within-lts.Need-same-length-5 (within-claims t) (within-at t) within.Post
-within-same-length-5 t c = search fates
-
-within-returns-5 : (t : ℕ) → within-lts.Need-returns-5 (within-claims t) (within-at t) within.Post
-within-returns-5 t c = search fates
+within-spec : {M : Type 1} (t : ℕ) → within-lts.Closed (within-claims t) (within-at t) within.Post M
+within-spec t =
+    within-lts.spec (within-claims t) (within-at t) within.Post (λ c. search fates) (λ c κs. (omega arith, search fates)) (λ c. search fates)
+    (λ c κs. (omega arith, search fates)) (λ c. search fates) (λ c κs. (omega arith, search fates)) (λ c. search fates) (λ c κs. (omega arith, search fates))
+    (λ c. search fates) (λ c κs. (omega arith, search fates)) (λ c. search fates) (λ c. search fates) (λ c. search fates) (λ c. search fates)
+    (λ c. search fates) (λ c. search fates) (λ c. search fates) (λ c. search fates) (λ c. search fates) (λ c. search fates)
 
 pub +heard-body+item+missed-body+still-body+within-spec : {M : Type 1} → statement M
 +heard-body+item+missed-body+still-body+within-spec =
-    close μ-heard-body μ-item μ-missed-body μ-still-body μ-within
-    (λ t. heard-body-lts.spec (heard-body-claims t) (heard-body-at t) heard-body.Post heard-body-Inv-loop heard-body-μ-loop (heard-body-loop-holds t) (heard-body-add-from t) (heard-body-mul-w t) (heard-body-slice-read-w t) (heard-body-delay-in-requires t) (heard-body-add-t20 t) (heard-body-heard-fate-requires t) (heard-body-item-requires t) (heard-body-add-place t) (heard-body-sub-left t) (heard-body-loop-less t) (heard-body-loop-again t) (heard-body-same-length t) (heard-body-returns t))
-    (λ t. item-lts.spec (item-claims t) (item-at t) item.Post (item-item-in-requires t) (item-leave-requires t) (item-same-length t) (item-returns t) (item-sub-extent t) (item-extent-requires t) (item-add-size t) (item-returns-2 t) (item-synchrony-of-requires t) (item-error-of-requires t) (item-sub-within t) (item-add-within t) (item-within-requires t) (item-same-length-2 t) (item-returns-3 t))
-    (λ t. missed-body-lts.spec (missed-body-claims t) (missed-body-at t) missed-body.Post missed-body-Inv-loop missed-body-μ-loop (missed-body-loop-holds t) (missed-body-add-from t) (missed-body-mul-w t) (missed-body-slice-read-w t) (missed-body-delay-in-requires t) (missed-body-add-t20 t) (missed-body-missed-fate-requires t) (missed-body-item-requires t) (missed-body-add-place t) (missed-body-sub-left t) (missed-body-loop-less t) (missed-body-loop-again t) (missed-body-same-length t) (missed-body-returns t))
-    (λ t. still-body-lts.spec (still-body-claims t) (still-body-at t) still-body.Post still-body-Inv-loop still-body-μ-loop (still-body-loop-holds t) (still-body-add-from t) (still-body-mul-w t) (still-body-slice-read-w t) (still-body-item-requires t) (still-body-add-place t) (still-body-sub-left t) (still-body-loop-less t) (still-body-loop-again t) (still-body-same-length t) (still-body-returns t))
-    (λ t. within-lts.spec (within-claims t) (within-at t) within.Post (within-enum-known-f t) (within-heard-body-requires t) (within-enum-known-f-2 t) (within-missed-body-requires t) (within-enum-known-f-3 t) (within-missed-body-requires-2 t) (within-enum-told t) (within-still-body-requires t) (within-enum-told-2 t) (within-still-body-requires-2 t) (within-same-length t) (within-returns t) (within-same-length-2 t) (within-returns-2 t) (within-same-length-3 t) (within-returns-3 t) (within-same-length-4 t) (within-returns-4 t) (within-same-length-5 t) (within-returns-5 t))
+    close μ-heard-body μ-item μ-missed-body μ-still-body μ-within heard-body-spec item-spec missed-body-spec still-body-spec within-spec
