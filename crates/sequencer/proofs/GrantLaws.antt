@@ -6,38 +6,39 @@ use Prim.Native.Nat.{ℕ, _≤_, _<_}
 use lib.ListN.{length}
 use borrow.Author.Tests.{leb-true, ltb-true}
 use Rattle.base.proofs.TestLaws.{between-low, between-high}
-use Rattle.sequencer.specs.Layout.{memorySize, roomSize, mostTempo, mostMillis, clockEnd, eventsAt, lastAt, wordAt}
-use Rattle.sequencer.specs.Session.{Header}
-use Rattle.sequencer.specs.Calls.{granted, clockAfter, heardCheck, passCheck}
-use Rattle.sequencer.proofs.CheckLaws.{grant-head, grant-rest}
-use Rattle.sequencer.proofs.SessionRule.{session-header}
+use Rattle.base.proofs.CheckLaws.{first-rest, first-holds}
+use Rattle.session.specs.Layout.{memorySize, roomSize, mostTempo, mostMillis, clockEnd, eventCountAt, lastAt, wordAt}
+use Rattle.session.specs.Inner.{Header}
+use Rattle.base.specs.Checks.{fine}
+use Rattle.sequencer.specs.Calls.{clockAfter, heardCheck, passCheck}
+use Rattle.session.proofs.SessionRule.{session-header}
 
 -- A heard note is granted.
 pub record Hearable (m room : List ℕ) (event tempo : ℕ) : Type 0 where
   pub long : memorySize ≤ length m
   pub wide : roomSize ≤ length room
   pub header : Header m
-  pub last : event ≤ wordAt m eventsAt
+  pub last : event ≤ wordAt m eventCountAt
   pub after : wordAt m lastAt < event
   pub slow : 1 ≤ tempo
   pub fast : tempo ≤ mostTempo
 
-pub hearable : (m room : List ℕ) (event tempo : ℕ) → heardCheck m room event tempo ≡ granted → Hearable m room event tempo
+pub hearable : (m room : List ℕ) (event tempo : ℕ) → heardCheck m room event tempo ≡ fine → Hearable m room event tempo
 unfolding heardCheck
 hearable m room event tempo e =
-    let e₁ = grant-rest _ _ _ e in
-    let e₂ = grant-rest _ _ _ e₁ in
-    let e₃ = grant-rest _ _ _ e₂ in
-    let e₄ = grant-rest _ _ _ e₃ in
-    let e₅ = grant-rest _ _ _ e₄ in
+    let e₁ = first-rest _ _ e in
+    let e₂ = first-rest _ _ e₁ in
+    let e₃ = first-rest _ _ e₂ in
+    let e₄ = first-rest _ _ e₃ in
+    let e₅ = first-rest _ _ e₄ in
     record {
-      long = leb-true _ _ (grant-head _ _ _ e);
-      wide = leb-true _ _ (grant-head _ _ _ e₁);
-      header = session-header m (grant-head _ _ _ e₂);
-      last = between-high 1 _ _ (grant-head _ _ _ e₃);
-      after = ltb-true _ _ (grant-head _ _ _ e₄);
-      slow = between-low 1 mostTempo _ (grant-head _ _ _ e₅);
-      fast = between-high 1 mostTempo _ (grant-head _ _ _ e₅);
+      long = leb-true _ _ (first-holds _ _ _ e);
+      wide = leb-true _ _ (first-holds _ _ _ e₁);
+      header = session-header m (first-holds _ _ _ e₂);
+      last = between-high 1 _ _ (first-holds _ _ _ e₃);
+      after = ltb-true _ _ (first-holds _ _ _ e₄);
+      slow = between-low 1 mostTempo _ (first-holds _ _ _ e₅);
+      fast = between-high 1 mostTempo _ (first-holds _ _ _ e₅);
     }
 
 -- Passing time is granted.
@@ -49,18 +50,18 @@ pub record Passable (m room : List ℕ) (ms : ℕ) : Type 0 where
   pub few : ms ≤ mostMillis
   pub clock : clockAfter m ms ≤ clockEnd
 
-pub passable : (m room : List ℕ) (ms : ℕ) → passCheck m room ms ≡ granted → Passable m room ms
+pub passable : (m room : List ℕ) (ms : ℕ) → passCheck m room ms ≡ fine → Passable m room ms
 unfolding passCheck
 passable m room ms e =
-    let e₁ = grant-rest _ _ _ e in
-    let e₂ = grant-rest _ _ _ e₁ in
-    let e₃ = grant-rest _ _ _ e₂ in
-    let e₄ = grant-rest _ _ _ e₃ in
+    let e₁ = first-rest _ _ e in
+    let e₂ = first-rest _ _ e₁ in
+    let e₃ = first-rest _ _ e₂ in
+    let e₄ = first-rest _ _ e₃ in
     record {
-      long = leb-true _ _ (grant-head _ _ _ e);
-      wide = leb-true _ _ (grant-head _ _ _ e₁);
-      header = session-header m (grant-head _ _ _ e₂);
-      some = between-low 1 mostMillis _ (grant-head _ _ _ e₃);
-      few = between-high 1 mostMillis _ (grant-head _ _ _ e₃);
-      clock = leb-true _ _ (grant-head _ _ _ e₄);
+      long = leb-true _ _ (first-holds _ _ _ e);
+      wide = leb-true _ _ (first-holds _ _ _ e₁);
+      header = session-header m (first-holds _ _ _ e₂);
+      some = between-low 1 mostMillis _ (first-holds _ _ _ e₃);
+      few = between-high 1 mostMillis _ (first-holds _ _ _ e₃);
+      clock = leb-true _ _ (first-holds _ _ _ e₄);
     }

@@ -6,10 +6,16 @@ use Prim.Native.Nat.{ℕ, _+_, _*_, _≤_}
 use native.Mathlib.Omega.{arith}
 use lib.ListN.{length, set, length-set}
 use lib.Seq.{getD-set-same, getD-set-other}
-use Rattle.sequencer.specs.Layout.{memorySize, mostSent, mostTempo, clockEnd, markAt, eventsAt, itemsAt, partsAt, clockAt, tempoAt, lastAt, totalAt, wordAt}
-use Rattle.sequencer.specs.Session.{Header}
+use Rattle.session.specs.Layout.{memorySize, mostSent, mostTempo, clockEnd, markAt, eventCountAt, itemCountAt, partsAt, clockAt, tempoAt, lastAt, totalAt, takenAt, wordAt}
+use Rattle.session.specs.Inner.{Header}
 use Rattle.sequencer.specs.Calls.{headed}
-use Rattle.sequencer.proofs.KeptLaws.{kept-word, headed-kept}
+use Rattle.session.proofs.Kept.{Kept, kept-none, kept-set, kept-word}
+
+pub headed-kept : (clock tempo last total : ℕ) (m : List ℕ) → Kept clockAt takenAt m (headed clock tempo last total m)
+unfolding headed
+headed-kept clock tempo last total m =
+    kept-set _ _ (omega arith) (omega arith)
+    (kept-set _ _ (omega arith) (omega arith) (kept-set _ _ (omega arith) (omega arith) (kept-set _ _ (omega arith) (omega arith) (kept-none clockAt takenAt _))))
 
 module _ (clock tempo last total : ℕ) (m : List ℕ) (long : memorySize ≤ length m) where
   pub headed-total : wordAt (headed clock tempo last total m) totalAt ≡ total
@@ -41,19 +47,19 @@ module _ (clock tempo last total : ℕ) (m : List ℕ) (long : memorySize ≤ le
       ∙ getD-set-other a tempoAt clockAt tempo 0 (λ e. omega arith)
       ∙ getD-set-same m clockAt clock 0 (omega arith)
 
-  pub headed-header : Header m → clock ≤ clockEnd → 1 ≤ tempo → tempo ≤ mostTempo → last ≤ wordAt m eventsAt → total ≤ mostSent * (clock + last)
+  pub headed-header : Header m → clock ≤ clockEnd → 1 ≤ tempo → tempo ≤ mostTempo → last ≤ wordAt m eventCountAt → total ≤ mostSent * (clock + last)
       → Header (headed clock tempo last total m)
   headed-header h c s f l t =
       let k = headed-kept clock tempo last total m in
       record {
         marked = kept-word k markAt (omega arith) ∙ h .marked;
-        some = rw (kept-word k eventsAt (omega arith)) (h .some);
-        events = rw (kept-word k eventsAt (omega arith)) (h .events);
-        items = rw (kept-word k itemsAt (omega arith)) (h .items);
+        some = rw (kept-word k eventCountAt (omega arith)) (h .some);
+        events = rw (kept-word k eventCountAt (omega arith)) (h .events);
+        items = rw (kept-word k itemCountAt (omega arith)) (h .items);
         parts = rw (kept-word k partsAt (omega arith)) (h .parts);
         clock = rw headed-clock c;
         moving = rw headed-tempo s;
         tempo = rw headed-tempo f;
-        last = rw (headed-last, kept-word k eventsAt (omega arith)) l;
+        last = rw (headed-last, kept-word k eventCountAt (omega arith)) l;
         total = rw (headed-total, headed-clock, headed-last) t;
       }

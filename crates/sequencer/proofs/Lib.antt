@@ -1,28 +1,7 @@
--- Laws of the session, for the proofs of several functions and for the layers above.
-pub mod ListLaws
-pub mod CheckLaws
-pub mod OpeningSteps
-pub mod SessionRule
-pub mod SoundingParts
-pub mod ClearSteps
-pub mod WrittenLaws
-pub mod StartLaws
-pub mod ClearedLaws
-pub mod NewSession
-pub mod Fitting
-pub mod Fresh
-pub mod Opened
-pub mod WriteSteps
-pub mod SlotLaws
-pub mod BehindLaws
-pub mod RoomLaws
-pub mod DueLaws
-pub mod SendLaws
-pub mod KeptLaws
+-- Laws of the calls, for the proofs of several functions and for the layers above.
 pub mod NoteLaws
-pub mod CallCases
 pub mod CallLaws
-pub mod SentLaws
 pub mod GrantLaws
 pub mod HeadedLaws
 pub mod CallsKeep
+pub mod FirstWords

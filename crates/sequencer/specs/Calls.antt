@@ -1,47 +1,36 @@
--- Heard note, passing time and report: the reply, the session memory and the send room after each, on all words. "A refusal sends nothing and changes no lent word."
-use mathlib.Core.Path.{_≡_}
+-- Heard note, passing time and report, on all words. "A refusal sends nothing and changes no lent word."
 use Prim.Native.Nat.{ℕ, zero, suc, _+_, _-_}
-use mathlib.Core.Bool.{Bool, true, false}
 use mathlib.Core.List.{List, [], _∷_}
 use lib.Dec.{leb, ltb}
 use lib.ListN.{length, set}
-use Rattle.units.specs.Units.{movedBy}
 use Rattle.base.specs.Tests.{between}
-use Rattle.evaluators.specs.Tables.{performed}
-use Rattle.sequencer.specs.declared.Refusal.{Refusal}
-use Rattle.sequencer.specs.declared.Refusal.the-variants.{MemoryShort, RoomShort, BadTempo, NoSession, NoEvent, NotAfter, BadMillis, ClockFull}
+use Rattle.base.specs.Checks.{Check, fine, refused, need, firstFault}
+use Rattle.units.specs.Units.{movedBy}
+use Rattle.evaluators.specs.Performed.{performed}
+use Rattle.session.specs.declared.Refusal.{Refusal}
+use Rattle.session.specs.declared.Refusal.the-variants.{MemoryShort, RoomShort, BadTempo, NoSession, NoEvent, NotAfter, BadMillis, ClockFull}
+use Rattle.session.specs.Layout.{memorySize, roomSize, mostTempo, mostMillis, clockEnd, eventCountAt, itemCountAt, clockAt, tempoAt, lastAt, totalAt, takenAt, wordAt, placesOf}
+use Rattle.session.specs.Session.{isSession}
+use Rattle.sending.specs.Room.{filled}
+use Rattle.sending.specs.Sending.{settled, sentAt, firedAt}
 use Rattle.sequencer.specs.declared.Sending.{Sending}
 use Rattle.sequencer.specs.declared.Sending.the-variants.{Sent, Refused as notSent}
+use Rattle.sequencer.specs.declared.Figures.{Figures}
 use Rattle.sequencer.specs.declared.Report.{Report}
-use Rattle.sequencer.specs.declared.Report.the-variants.{Figures, Refused as notReported}
-use Rattle.sequencer.specs.Layout.{memorySize, roomSize, mostTempo, mostMillis, clockEnd, eventsAt, itemsAt, clockAt, tempoAt, lastAt, totalAt, takenAt, wordAt, tablesOf}
-use Rattle.sequencer.specs.Session.{isSession}
-use Rattle.sequencer.specs.Sending.{Message, settled, sentAt, firedAt, filled}
+use Rattle.sequencer.specs.declared.Report.the-variants.{Given, Refused as notReported}
 
--- ---- the order of checks: the first test that fails, of tests with their refusals
-
-pub data Check : Type 0 where
-  must : Bool → Refusal → Check
-
-pub data Grant : Type 0 where
-  granted : Grant
-  refused : Refusal → Grant
-
-unfoldable pub firstOf : List Check → Grant
-firstOf [] = granted
-firstOf (must true x ∷ l) = firstOf l
-firstOf (must false x ∷ l) = refused x
+-- ---- the order of checks
 
 -- "Heard note: 1, 2, 10, 11, 12, 9."
-unfoldable pub heardCheck : (m room : List ℕ) → (event tempo : ℕ) → Grant
+unfoldable pub heardCheck : (memory room : List ℕ) → (event tempo : ℕ) → Check Refusal
 heardCheck m room h tempo =
-    firstOf (
-    must (leb memorySize (length m)) MemoryShort
-    ∷ must (leb roomSize (length room)) RoomShort
-    ∷ must (isSession m) NoSession
-    ∷ must (between 1 (wordAt m eventsAt) h) NoEvent
-    ∷ must (ltb (wordAt m lastAt) h) NotAfter
-    ∷ must (between 1 mostTempo tempo) BadTempo
+    firstFault (
+    need (leb memorySize (length m)) MemoryShort
+    ∷ need (leb roomSize (length room)) RoomShort
+    ∷ need (isSession m) NoSession
+    ∷ need (between 1 (wordAt m eventCountAt) h) NoEvent
+    ∷ need (ltb (wordAt m lastAt) h) NotAfter
+    ∷ need (between 1 mostTempo tempo) BadTempo
     ∷ []
     )
 
@@ -50,22 +39,22 @@ unfoldable pub clockAfter : List ℕ → ℕ → ℕ
 clockAfter m ms = wordAt m clockAt + movedBy (record { 0 = ms }) (wordAt m tempoAt) .0
 
 -- "Passing time: 1, 2, 10, 13, 14."
-unfoldable pub passCheck : (m room : List ℕ) → (ms : ℕ) → Grant
+unfoldable pub passCheck : (memory room : List ℕ) → (ms : ℕ) → Check Refusal
 passCheck m room ms =
-    firstOf (
-    must (leb memorySize (length m)) MemoryShort
-    ∷ must (leb roomSize (length room)) RoomShort
-    ∷ must (isSession m) NoSession
-    ∷ must (between 1 mostMillis ms) BadMillis
-    ∷ must (leb (clockAfter m ms) clockEnd) ClockFull
+    firstFault (
+    need (leb memorySize (length m)) MemoryShort
+    ∷ need (leb roomSize (length room)) RoomShort
+    ∷ need (isSession m) NoSession
+    ∷ need (between 1 mostMillis ms) BadMillis
+    ∷ need (leb (clockAfter m ms) clockEnd) ClockFull
     ∷ []
     )
 
 -- "Report: 1, 10."
-unfoldable pub reportCheck : List ℕ → Grant
-reportCheck m = firstOf (must (leb memorySize (length m)) MemoryShort ∷ must (isSession m) NoSession ∷ [])
+unfoldable pub reportCheck : List ℕ → Check Refusal
+reportCheck m = firstFault (need (leb memorySize (length m)) MemoryShort ∷ need (isSession m) NoSession ∷ [])
 
--- ---- the words that a granted call works on
+-- ---- what a granted call makes of the words
 
 -- The count events from k on are settled by event h: each was missed before it, but h itself, which is heard.
 unfoldable pub tookNote : (h count k : ℕ) → List ℕ → List ℕ
@@ -76,65 +65,40 @@ tookNote h (suc n) k m = tookNote h n (k + 1) (set m (takenAt + k) h)
 unfoldable pub noted : ℕ → List ℕ → List ℕ
 noted h m =
     let m₁ = tookNote h (h - wordAt m lastAt) (wordAt m lastAt + 1) m in
-    settled (wordAt m clockAt) (wordAt m itemsAt) 0 (performed (tablesOf m₁) m₁)
+    settled (wordAt m clockAt) (wordAt m itemCountAt) 0 (performed (placesOf m₁) m₁)
 
--- The header after a call: "A heard note sets the new tempo"; c messages more were sent.
+-- The header after a call: "A heard note sets the new tempo"; total messages were sent since the opening.
 unfoldable pub headed : (clock tempo last total : ℕ) → List ℕ → List ℕ
 headed clock tempo last total m = set (set (set (set m clockAt clock) tempoAt tempo) lastAt last) totalAt total
 
--- ---- heard note
+-- What a heard note or passing time comes to: its reply, and the session memory and the send room after it.
+pub record SendingResult : Type 0 where
+  pub reply : Sending
+  pub memory : List ℕ
+  pub room : List ℕ
 
-unfoldable pub heardMessages : List ℕ → ℕ → List Message
-heardMessages m h = sentAt (wordAt m clockAt) (noted h m)
+-- All that is due at this clock reading is sent, and the header says what holds after the call.
+unfoldable pub sentNow : (clock tempo last : ℕ) → (memory room : List ℕ) → SendingResult
+sentNow clock tempo last m room =
+    let l = sentAt clock m in
+    record { reply = Sent (length l); memory = headed clock tempo last (wordAt m totalAt + length l) (firedAt clock m); room = filled l room }
 
-unfoldable pub heardReply : (m room : List ℕ) → (event tempo : ℕ) → Sending
-heardReply m room h tempo = elim (heardCheck m room h tempo) [ granted ↦ Sent (length (heardMessages m h)) | refused x ↦ notSent x ]
+-- By one look at its check: the granted call, or memory and room as they came.
+unfoldable pub ifFine : Check Refusal → SendingResult → (memory room : List ℕ) → SendingResult
+ifFine fine granted m room = granted
+ifFine (refused x) granted m room = record { reply = notSent x; memory = m; room = room }
 
-unfoldable pub heardMemory : (m room : List ℕ) → (event tempo : ℕ) → List ℕ
-heardMemory m room h tempo =
-    elim (heardCheck m room h tempo) [
-      | granted ↦ headed (wordAt m clockAt) tempo h (wordAt m totalAt + length (heardMessages m h)) (firedAt (wordAt m clockAt) (noted h m))
-      | refused x ↦ m
-    ]
+-- ---- the calls
 
-unfoldable pub heardRoom : (m room : List ℕ) → (event tempo : ℕ) → List ℕ
-heardRoom m room h tempo = elim (heardCheck m room h tempo) [ granted ↦ filled (heardMessages m h) room | refused x ↦ room ]
+unfoldable pub heardNote : (memory room : List ℕ) → (event tempo : ℕ) → SendingResult
+heardNote m room h tempo = ifFine (heardCheck m room h tempo) (sentNow (wordAt m clockAt) tempo h (noted h m) room) m room
 
--- A heard note replies r, and leaves the memory m′ and the room room′.
-pub record HeardNote (m room : List ℕ) (event tempo : ℕ) (r : Sending) (m′ room′ : List ℕ) : Type 0 where
-  pub reply : r ≡ heardReply m room event tempo
-  pub memory : m′ ≡ heardMemory m room event tempo
-  pub laid : room′ ≡ heardRoom m room event tempo
+unfoldable pub passingTime : (memory room : List ℕ) → (ms : ℕ) → SendingResult
+passingTime m room ms = ifFine (passCheck m room ms) (sentNow (clockAfter m ms) (wordAt m tempoAt) (wordAt m lastAt) m room) m room
 
--- ---- passing time
-
-unfoldable pub passMessages : List ℕ → ℕ → List Message
-passMessages m ms = sentAt (clockAfter m ms) m
-
-unfoldable pub passReply : (m room : List ℕ) → (ms : ℕ) → Sending
-passReply m room ms = elim (passCheck m room ms) [ granted ↦ Sent (length (passMessages m ms)) | refused x ↦ notSent x ]
-
-unfoldable pub passMemory : (m room : List ℕ) → (ms : ℕ) → List ℕ
-passMemory m room ms =
-    elim (passCheck m room ms) [
-      | granted ↦ headed (clockAfter m ms) (wordAt m tempoAt) (wordAt m lastAt) (wordAt m totalAt + length (passMessages m ms)) (firedAt (clockAfter m ms) m)
-      | refused x ↦ m
-    ]
-
-unfoldable pub passRoom : (m room : List ℕ) → (ms : ℕ) → List ℕ
-passRoom m room ms = elim (passCheck m room ms) [ granted ↦ filled (passMessages m ms) room | refused x ↦ room ]
-
--- Passing time replies r, and leaves the memory m′ and the room room′.
-pub record PassingTime (m room : List ℕ) (ms : ℕ) (r : Sending) (m′ room′ : List ℕ) : Type 0 where
-  pub reply : r ≡ passReply m room ms
-  pub memory : m′ ≡ passMemory m room ms
-  pub laid : room′ ≡ passRoom m room ms
-
--- ---- report
+unfoldable pub ifKnown : Check Refusal → Figures → Report
+ifKnown fine s = Given s
+ifKnown (refused x) s = notReported x
 
 unfoldable pub reported : List ℕ → Report
-reported m =
-    elim (reportCheck m) [
-      | granted ↦ Figures (record { clock = wordAt m clockAt; tempo = wordAt m tempoAt; last = wordAt m lastAt; total = wordAt m totalAt })
-      | refused x ↦ notReported x
-    ]
+reported m = ifKnown (reportCheck m) (record { clock = wordAt m clockAt; tempo = wordAt m tempoAt; last = wordAt m lastAt; total = wordAt m totalAt })

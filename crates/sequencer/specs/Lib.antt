@@ -1,8 +1,3 @@
--- The session's words and what each call makes of them: document 01's section 'Replies', and the sending of 'The rules of performance'.
+-- What each call of a session makes of its words: document 01's section 'Replies'.
 pub mod Replies
-pub mod Layout
-pub mod Session
-pub mod Opening
-pub mod Sending
 pub mod Calls
-pub mod Inner

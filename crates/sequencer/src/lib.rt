@@ -1,51 +1,17 @@
-// The session: opened on a score file, told of heard notes and of passing time, asked for a report. All of it lives in 8,192 lent words.
-use score::Fault;
+// The calls of an opened session: it is told of heard notes and of passing time, and asked for a report. All of it lives in 8,192 lent words.
+use session::Refusal;
 
-mod calls;
-mod due;
-mod layout;
-mod new_session;
+mod finish;
+mod heard;
+mod passing;
 mod replies;
-mod room;
-mod session;
-mod slots;
+mod reporting;
 
-pub use calls::hear;
-pub use calls::pass;
-pub use new_session::open_session;
-pub use replies::opening_reply;
-pub use replies::refusal_row;
+pub use heard::hear;
+pub use passing::pass;
 pub use replies::report_reply;
 pub use replies::sending_reply;
-pub use session::read_report;
-
-// Why a call is refused.
-pub enum Refusal {
-    // "session memory under 8,192 words (u64)"
-    MemoryShort,
-    // "send room under 2,048 words (u64)"
-    RoomShort,
-    // the file check's own faults
-    File(Fault),
-    // "tempo outside 1 to 50,400"
-    BadTempo,
-    // "not a session"
-    NoSession,
-    // "event number 0 or above the last"
-    NoEvent,
-    // "event not after the last one heard"
-    NotAfter,
-    // "milliseconds outside 1 to 1,000"
-    BadMillis,
-    // "the clock would pass 10^15"
-    ClockFull,
-}
-
-// An opening: how many parts sound.
-pub enum Opening {
-    Opened(u32),
-    Refused(Refusal),
-}
+pub use reporting::read_report;
 
 // A heard note or passing time: how many messages were sent.
 pub enum Sending {
@@ -53,13 +19,14 @@ pub enum Sending {
     Refused(Refusal),
 }
 
-// A report: clock, tempo, last event heard, messages sent since the opening.
+// A report.
 pub enum Report {
-    Figures(Standing),
+    Given(Figures),
     Refused(Refusal),
 }
 
-pub struct Standing {
+// "The report gives clock, tempo, last event heard (0 before the first) and messages sent since the opening."
+pub struct Figures {
     pub clock: u64,
     pub tempo: u64,
     pub last: u64,
@@ -67,12 +34,6 @@ pub struct Standing {
 }
 
 // The reply table's number and place, and the figures beside them.
-pub struct OpeningReply {
-    pub number: usize,
-    pub place: usize,
-    pub parts: u32,
-}
-
 pub struct SendingReply {
     pub number: usize,
     pub place: usize,
@@ -82,5 +43,5 @@ pub struct SendingReply {
 pub struct ReportReply {
     pub number: usize,
     pub place: usize,
-    pub standing: Standing,
+    pub figures: Figures,
 }

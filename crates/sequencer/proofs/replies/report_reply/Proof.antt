@@ -5,15 +5,6 @@ use borrow.Author.Needs.{needs}
 use Rattle.sequencer.proofs.replies.report_reply.Statement.{statement}
 use Rattle.sequencer.proofs.replies.report_reply.Tie as tie
 
-enum-known-a : tie.Need-enum-known-a
-enum-known-a c = search needs
-
-enum-known-a-2 : tie.Need-enum-known-a-2
-enum-known-a-2 c = search needs
-
-refusal-row-requires : tie.Need-refusal-row-requires
-refusal-row-requires c κs = search needs
-
 returns : tie.Need-returns
 unfolding reportReply
 returns c = cc
@@ -23,5 +14,4 @@ unfolding reportReply
 returns-2 c = cc
 
 pub report-reply-spec : {M : Type 1} → statement M
-report-reply-spec =
-    tie.close (tie.spec enum-known-a enum-known-a-2 refusal-row-requires returns returns-2)
+report-reply-spec = tie.close (tie.spec (λ c. search needs) (λ c. search needs) (λ c κs. search needs) returns returns-2)

@@ -5,15 +5,6 @@ use borrow.Author.Needs.{needs}
 use Rattle.sequencer.proofs.replies.sending_reply.Statement.{statement}
 use Rattle.sequencer.proofs.replies.sending_reply.Tie as tie
 
-enum-known-s : tie.Need-enum-known-s
-enum-known-s c = search needs
-
-enum-known-s-2 : tie.Need-enum-known-s-2
-enum-known-s-2 c = search needs
-
-refusal-row-requires : tie.Need-refusal-row-requires
-refusal-row-requires c κs = search needs
-
 returns : tie.Need-returns
 unfolding sendingReply
 returns c = cc
@@ -23,5 +14,4 @@ unfolding sendingReply
 returns-2 c = cc
 
 pub sending-reply-spec : {M : Type 1} → statement M
-sending-reply-spec =
-    tie.close (tie.spec enum-known-s enum-known-s-2 refusal-row-requires returns returns-2)
+sending-reply-spec = tie.close (tie.spec (λ c. search needs) (λ c. search needs) (λ c κs. search needs) returns returns-2)
