@@ -7,7 +7,7 @@ use native.Mathlib.Omega.{arith}
 use lib.Dec.{eqb}
 use borrow.Author.Tests.{eqb-true, eqb-false, eq-eqb}
 use Rattle.base.specs.Tests.{pick}
-use Rattle.sequencer.specs.Sending.{halvings, sounds}
+use Rattle.session.specs.Parts.{halvings, sounds}
 use Rattle.demands.specs.Demands.{either}
 
 abbrev Apart : (A B : ℕ) → Type 0

@@ -7,32 +7,33 @@ use native.Mathlib.Nat.{add-zero, add-assoc}
 use lib.ListN.{length}
 use Rattle.rules.specs.Page.{Entry}
 use Rattle.sequencer.specs.Replies.{sendingReply}
-use Rattle.sequencer.specs.Calls.{Grant, granted, refused}
+use Rattle.session.specs.declared.Refusal.{Refusal}
+use Rattle.base.specs.Checks.{Check, fine, refused}
 use Rattle.demands.specs.History.{Call, note, pass, report, lookUp, Now, after}
 use Rattle.demands.specs.Messages.{Sent}
-use Rattle.demands.specs.Answers.{Answer, sendingAnswer, messagesOf, ifGranted, messagesAt, answer, answers}
+use Rattle.demands.specs.Answers.{Answer, sendingAnswer, messagesOf, ifGranted, messagesBy, answer, answers}
 use Rattle.demands.specs.Demands.{afterAll, sentBy, countIn, sumOf}
 
-count-sending : (g : Grant) (l : List Sent) (room : List ℕ) → countIn (sendingAnswer g l room) ≡ length (ifGranted g l)
+count-sending : (g : Check Refusal) (l : List Sent) (room : List ℕ) → countIn (sendingAnswer g l room) ≡ length (ifGranted g l)
 unfolding countIn sendingAnswer sendingReply ifGranted
-count-sending granted l room = refl
+count-sending fine l room = refl
 count-sending (refused x) l room = refl
 
-count-none : (g : Grant) → 0 ≡ length (ifGranted g [])
+count-none : (g : Check Refusal) → 0 ≡ length (ifGranted g [])
 unfolding ifGranted
-count-none granted = refl
+count-none fine = refl
 count-none (refused x) = refl
 
 -- The messages of one call more.
 pub sent-on : (ds : List ℕ) (es : List Entry) (s : Now) (cs : List Call) (c : Call)
-    → sentBy ds es s (cs ++ (c ∷ [])) ≡ sentBy ds es s cs ++ (messagesAt ds es (afterAll (length ds) s cs) c ∷ [])
+    → sentBy ds es s (cs ++ (c ∷ [])) ≡ sentBy ds es s cs ++ (messagesBy ds es (afterAll (length ds) s cs) c ∷ [])
 unfolding sentBy afterAll
 sent-on ds es s [] c = refl
-sent-on ds es s (k ∷ cs) c = ap (λ (l : List (List Sent)). messagesAt ds es s k ∷ l) (sent-on ds es (after (length ds) s k) cs c)
+sent-on ds es s (k ∷ cs) c = ap (λ (l : List (List Sent)). messagesBy ds es s k ∷ l) (sent-on ds es (after (length ds) s k) cs c)
 
 module _ (f ds : List ℕ) (es : List Entry) where
-  pub count-is : (total : ℕ) (s : Now) (c : Call) → countIn (answer f ds es total s c) ≡ length (messagesAt ds es s c)
-  unfolding answer messagesAt messagesOf countIn
+  pub count-is : (total : ℕ) (s : Now) (c : Call) → countIn (answer f ds es total s c) ≡ length (messagesBy ds es s c)
+  unfolding answer messagesBy messagesOf countIn
   count-is total s (note room h tempo) = count-sending _ _ room
   count-is total s (pass room ms) = count-sending _ _ room
   count-is total s report = count-none _
@@ -41,7 +42,7 @@ module _ (f ds : List ℕ) (es : List Entry) where
   pub counts-are : (total : ℕ) (s : Now) (cs : List Call) → map countIn (answers f ds es total s cs) ≡ map length (sentBy ds es s cs)
   unfolding answers sentBy
   counts-are total s [] = refl
-  counts-are total s (c ∷ cs) = rw (count-is total s c, counts-are (total + length (messagesAt ds es s c)) (after (length ds) s c) cs)
+  counts-are total s (c ∷ cs) = rw (count-is total s c, counts-are (total + length (messagesBy ds es s c)) (after (length ds) s c) cs)
 
   -- Calls after calls: they begin with the sum of the counts before them.
   pub answers-on : (total : ℕ) (s : Now) (cs ks : List Call)
@@ -50,4 +51,4 @@ module _ (f ds : List ℕ) (es : List Entry) where
   answers-on total s [] ks = rw add-zero
   answers-on total s (c ∷ cs) ks =
       rw (count-is total s c, ← add-assoc)
-      (ap (λ (l : List Answer). answer f ds es total s c ∷ l) (answers-on (total + length (messagesAt ds es s c)) (after (length ds) s c) cs ks))
+      (ap (λ (l : List Answer). answer f ds es total s c ∷ l) (answers-on (total + length (messagesBy ds es s c)) (after (length ds) s c) cs ks))

@@ -1,90 +1,131 @@
--- Demand 2 over session memory: the answers of a list of calls, as the sequencer's contracts have them, are those of the history; and what the memory is like
--- after them. From the opening on, call by call. Assumes nothing.
-use mathlib.Core.Path.{_≡_, refl, ap₂, sym, _∙_}
-use Prim.Native.Nat.{ℕ, _+_, _≤_, _<_}
+-- Demand 2 over session memory: the answers of an opening and of a list of calls after it, as the contracts have them, are those of the history; and what the memory
+-- is like after them. From the opening on, call by call. Assumes nothing.
+use mathlib.Core.Path.{_≡_, refl, ap, ap₂, sym, _∙_}
+use Prim.Native.Nat.{ℕ, zero, suc, _+_, _*_, _≤_, _<_}
 use mathlib.Core.Bool.{true}
-use mathlib.Core.List.{List, [], _∷_}
-use lib.ListN.{length, drop}
-use Rattle.base.specs.Tests.{between}
+use mathlib.Core.List.{List, [], _∷_, _++_, map}
+use native.Mathlib.Omega.{arith}
+use lib.ListN.{length, getD, drop, length-map}
+use Rattle.base.specs.Checks.{Check, fine, refused}
 use Rattle.score.specs.Piece.{decode}
 use Rattle.score.specs.File.{Accepted}
+use Rattle.rules.specs.Terms.{Terms}
 use Rattle.rules.specs.Page.{Entry}
-use Rattle.sequencer.specs.Session.{isSession}
-use Rattle.sequencer.specs.Sending.{sounds}
-use Rattle.sequencer.specs.Opening.{openedMemory}
-use Rattle.sequencer.proofs.Opened.{opened-past, opened-length}
-use Rattle.sequencer.proofs.CallsKeep.{heard-kept, pass-kept}
-use Rattle.demands.specs.History.{Call, note, pass, report, lookUp, Now, start, after}
-use Rattle.demands.specs.Answers.{Answer, messagesAt, answers, runOf}
-use Rattle.demands.specs.Memory.{memoryAfter, memoryAfterAll, answersIn}
-use Rattle.demands.specs.Demands.{soundingIn}
-use Rattle.demands.proofs.TieHolds.{Holds}
-use Rattle.demands.proofs.TieAnswers.{call-answers, call-leaves}
-use Rattle.demands.proofs.TieOpened.{opened-holds}
+use Rattle.session.specs.declared.Refusal.{Refusal}
+use Rattle.session.specs.Layout.{memorySize}
+use Rattle.session.specs.Parts.{sounds}
+use Rattle.session.specs.Session.{isSession}
+use Rattle.sending.specs.Room.{Message, roomWords, filled, pairsIn}
+use Rattle.sending.proofs.SentLaws.{pairs-filled}
+use Rattle.opening.specs.Replies.{openingReply}
+use Rattle.opening.specs.Opening.{opened}
+use Rattle.opening.proofs.Opened.{opened-past, opened-length, opened-sounding}
+use Rattle.sequencer.specs.Replies.{sendingReply}
+use Rattle.sequencer.proofs.CallsKeep.{heard-keeps, pass-keeps}
+use Rattle.demands.specs.History.{Call, note, pass, report, lookUp, Now, start, verdict, after}
+use Rattle.demands.specs.Messages.{Sent}
+use Rattle.demands.specs.Answers.{Answer, opening, messageOf, sendingAnswer, messagesOf, ifGranted, messagesBy, answer, answers, soundingIn, answersOf, runOf}
+use Rattle.demands.specs.Memory.{Openable, memoryAfter, memoryAfterAll, answersIn, runIn}
+use Rattle.demands.specs.Demands.{sentBy, messagesIn, sentIn}
+use Rattle.demands.proofs.MemoryAndHistory.Holds.{Holds}
+use Rattle.demands.proofs.MemoryAndHistory.Answers.{call-answers, call-leaves}
+use Rattle.demands.proofs.MemoryAndHistory.Opened.{granted, opened-holds}
 
 -- ---- any session that says what a history comes to
 
-module _ (f : List ℕ) (accepted : Accepted f) (bits : ℕ) where
+module _ (f : List ℕ) (accepted : Accepted f) (o : Terms) where
   abbrev ds : List ℕ
   ds = decode f .durations
 
   abbrev es : List Entry
-  es = soundingIn f (sounds bits)
+  es = soundingIn f (sounds (o .parts))
 
-  calls-answer : (total : ℕ) (s : Now) (m : List ℕ) → Holds f bits total s m → (cs : List Call) → answersIn f m cs ≡ answers f ds es total s cs
+  calls-answer : (total : ℕ) (s : Now) (m : List ℕ) → Holds f o total s m → (cs : List Call) → answersIn f m cs ≡ answers f ds es total s cs
   unfolding answersIn answers
   calls-answer total s m h [] = refl
   calls-answer total s m h (c ∷ cs) =
-      ap₂ {C = List Answer} (λ (a : Answer) (l : List Answer). a ∷ l) (call-answers f accepted bits total s m h c)
-      (calls-answer (total + length (messagesAt ds es s c)) (after (length ds) s c) (memoryAfter m c) (call-leaves f accepted bits total s m h c) cs)
+      ap₂ {C = List Answer} (λ (a : Answer) (l : List Answer). a ∷ l) (call-answers f accepted o total s m h c)
+      (calls-answer (total + length (messagesBy ds es s c)) (after (length ds) s c) (memoryAfter m c) (call-leaves f accepted o total s m h c) cs)
 
-  calls-session : (total : ℕ) (s : Now) (m : List ℕ) → Holds f bits total s m → (cs : List Call) → isSession (memoryAfterAll m cs) ≡ true
+  calls-session : (total : ℕ) (s : Now) (m : List ℕ) → Holds f o total s m → (cs : List Call) → isSession (memoryAfterAll m cs) ≡ true
   unfolding memoryAfterAll
   calls-session total s m h [] = h .session
   calls-session total s m h (c ∷ cs) =
-      calls-session (total + length (messagesAt ds es s c)) (after (length ds) s c) (memoryAfter m c) (call-leaves f accepted bits total s m h c) cs
+      calls-session (total + length (messagesBy ds es s c)) (after (length ds) s c) (memoryAfter m c) (call-leaves f accepted o total s m h c) cs
 
 -- ---- an opened session
 
--- Each call of every list of calls after the opening replies, and leaves the send room, as the history says: the messages of the sounding parts by the rules, at
--- the first call whose clock has reached the due date, by due date and then page place.
-pub demand-2 : (f m : List ℕ) (parts tempo : ℕ) (cs : List Call) → Accepted f → 8192 ≤ length m → parts < 65536 → between 1 50400 tempo ≡ true
-    → answersIn f (openedMemory m f parts tempo) cs ≡ runOf f (sounds parts) tempo cs
-unfolding runOf soundingIn
-demand-2 f m parts tempo cs accepted long sixteen speed =
-    calls-answer f accepted parts 0 (start tempo) (openedMemory m f parts tempo) (opened-holds f m parts tempo accepted long sixteen speed) cs
+module _ (f m : List ℕ) (o : Terms) (can : Openable f m o) (cs : List Call) where
+  start-holds : Holds f o 0 (start o) (opened m f o .memory)
+  start-holds = opened-holds f m o (can .accepted) (can .long) (can .sixteen) (can .speed)
 
--- "Every opened session satisfies it after every call": number 10's rule.
-pub demand-2-session : (f m : List ℕ) (parts tempo : ℕ) (cs : List Call) → Accepted f → 8192 ≤ length m → parts < 65536 → between 1 50400 tempo ≡ true
-    → isSession (memoryAfterAll (openedMemory m f parts tempo) cs) ≡ true
-demand-2-session f m parts tempo cs accepted long sixteen speed =
-    calls-session f accepted parts 0 (start tempo) (openedMemory m f parts tempo) (opened-holds f m parts tempo accepted long sixteen speed) cs
+  pub demand-2-answers : answersIn f (opened m f o .memory) cs ≡ answersOf f o cs
+  unfolding answersOf
+  demand-2-answers = calls-answer f (can .accepted) o 0 (start o) _ start-holds cs
 
--- "Words past 8,192 are never read": what the memory held before the opening, there or anywhere, changes no answer.
-pub demand-2-any-memory : (f m k : List ℕ) (parts tempo : ℕ) (cs : List Call) → Accepted f → 8192 ≤ length m → 8192 ≤ length k → parts < 65536
-    → between 1 50400 tempo ≡ true
-    → answersIn f (openedMemory m f parts tempo) cs ≡ answersIn f (openedMemory k f parts tempo) cs
-demand-2-any-memory f m k parts tempo cs accepted long far sixteen speed =
-    demand-2 f m parts tempo cs accepted long sixteen speed ∙ sym (demand-2 f k parts tempo cs accepted far sixteen speed)
+  -- The opening and each call of every list of calls after it reply, and leave the send room, as the history says: the messages of the sounding parts by the rules,
+  -- at the first call whose clock has reached the due date, by due date and then page place.
+  pub demand-2 : runIn f m o cs ≡ runOf f o cs
+  unfolding runIn runOf openingReply
+  demand-2 =
+      rw (opened-sounding m f o (granted f m o (can .accepted) (can .long) (can .sixteen) (can .speed)) (can .sixteen), demand-2-answers)
+
+  -- "Every opened session satisfies it after every call": number 10's rule.
+  pub demand-2-session : isSession (memoryAfterAll (opened m f o .memory) cs) ≡ true
+  demand-2-session = calls-session f (can .accepted) o 0 (start o) _ start-holds cs
+
+-- What the memory held before the opening changes no answer.
+pub demand-2-any-memory : (f m k : List ℕ) (o : Terms) (cs : List Call) → Openable f m o → Openable f k o → runIn f m o cs ≡ runIn f k o cs
+demand-2-any-memory f m k o cs a b = demand-2 f m o a cs ∙ sym (demand-2 f k o b cs)
+
+-- ---- the messages that the send room holds
+
+room-sent : (g : Check Refusal) (l : List Sent) (room : List ℕ) → sentIn (sendingAnswer g l room) ≡ map messageOf (ifGranted g l)
+unfolding sentIn sendingAnswer sendingReply ifGranted pairsIn
+room-sent fine l room = rw (← length-map l messageOf) (pairs-filled (map messageOf l) room)
+room-sent (refused x) l room = refl
+
+none-sent : (g : Check Refusal) → [] ≡ map messageOf (ifGranted g [])
+unfolding ifGranted
+none-sent fine = refl
+none-sent (refused x) = refl
+
+call-sent : (f ds : List ℕ) (es : List Entry) (total : ℕ) (s : Now) (c : Call) → sentIn (answer f ds es total s c) ≡ map messageOf (messagesBy ds es s c)
+unfolding answer messagesBy messagesOf sentIn
+call-sent f ds es total s (note room h tempo) = room-sent (verdict (length ds) s (note room h tempo)) _ room
+call-sent f ds es total s (pass room ms) = room-sent (verdict (length ds) s (pass room ms)) _ room
+call-sent f ds es total s report = none-sent (verdict (length ds) s report)
+call-sent f ds es total s (lookUp n) = none-sent (verdict (length ds) s (lookUp n))
+
+calls-sent : (f ds : List ℕ) (es : List Entry) (total : ℕ) (s : Now) (cs : List Call) → map sentIn (answers f ds es total s cs) ≡ map (map messageOf) (sentBy ds es s cs)
+unfolding answers sentBy
+calls-sent f ds es total s [] = refl
+calls-sent f ds es total s (c ∷ cs) = rw (call-sent f ds es total s c, calls-sent f ds es (total + length (messagesBy ds es s c)) (after (length ds) s c) cs)
+
+-- The words of the send room after each call are the history's messages.
+pub demand-2-room : (f m : List ℕ) (o : Terms) → Openable f m o → (cs : List Call)
+    → map sentIn (answersIn f (opened m f o .memory) cs) ≡ map (map messageOf) (messagesIn f o cs)
+unfolding answersOf messagesIn
+demand-2-room f m o can cs = ap (map sentIn) (demand-2-answers f m o can cs) ∙ calls-sent f (decode f .durations) _ 0 (start o) cs
 
 -- ---- the words that no call touches, whatever the memory
 
-call-past : (m : List ℕ) (c : Call) → drop 8192 (memoryAfter m c) ≡ drop 8192 m
+call-past : (m : List ℕ) (c : Call) → drop memorySize (memoryAfter m c) ≡ drop memorySize m
 unfolding memoryAfter
-call-past m (note room h tempo) = heard-kept m room h tempo .past
-call-past m (pass room ms) = pass-kept m room ms .past
+call-past m (note room h tempo) = heard-keeps m room h tempo .words .past
+call-past m (pass room ms) = pass-keeps m room ms .words .past
 call-past m report = refl
 call-past m (lookUp n) = refl
 
 call-length : (m : List ℕ) (c : Call) → length (memoryAfter m c) ≡ length m
 unfolding memoryAfter
-call-length m (note room h tempo) = heard-kept m room h tempo .long
-call-length m (pass room ms) = pass-kept m room ms .long
+call-length m (note room h tempo) = heard-keeps m room h tempo .words .long
+call-length m (pass room ms) = pass-keeps m room ms .words .long
 call-length m report = refl
 call-length m (lookUp n) = refl
 
 -- "Words past 8,192 are never [..] changed", nor is the number of words.
-pub calls-past : (m : List ℕ) (cs : List Call) → drop 8192 (memoryAfterAll m cs) ≡ drop 8192 m
+pub calls-past : (m : List ℕ) (cs : List Call) → drop memorySize (memoryAfterAll m cs) ≡ drop memorySize m
 unfolding memoryAfterAll
 calls-past m [] = refl
 calls-past m (c ∷ cs) = calls-past (memoryAfter m c) cs ∙ call-past m c
@@ -94,8 +135,8 @@ unfolding memoryAfterAll
 calls-length m [] = refl
 calls-length m (c ∷ cs) = calls-length (memoryAfter m c) cs ∙ call-length m c
 
-pub demand-2-past : (f m : List ℕ) (parts tempo : ℕ) (cs : List Call) → drop 8192 (memoryAfterAll (openedMemory m f parts tempo) cs) ≡ drop 8192 m
-demand-2-past f m parts tempo cs = calls-past (openedMemory m f parts tempo) cs ∙ opened-past m f parts tempo
+pub demand-2-past : (f m : List ℕ) (o : Terms) (cs : List Call) → drop memorySize (memoryAfterAll (opened m f o .memory) cs) ≡ drop memorySize m
+demand-2-past f m o cs = calls-past (opened m f o .memory) cs ∙ opened-past m f o
 
-pub demand-2-length : (f m : List ℕ) (parts tempo : ℕ) (cs : List Call) → length (memoryAfterAll (openedMemory m f parts tempo) cs) ≡ length m
-demand-2-length f m parts tempo cs = calls-length (openedMemory m f parts tempo) cs ∙ opened-length m f parts tempo
+pub demand-2-length : (f m : List ℕ) (o : Terms) (cs : List Call) → length (memoryAfterAll (opened m f o .memory) cs) ≡ length m
+demand-2-length f m o cs = calls-length (opened m f o .memory) cs ∙ opened-length m f o

@@ -1,62 +1,43 @@
 -- A look-up in an accepted file depends on the file's labels alone.
 -- Assumes nothing.
 use mathlib.Core.Path.{_≡_, refl, ap, sym, _∙_}
-use Prim.Native.Nat.{ℕ, zero, suc, _+_, _*_, _≤_, _<_}
+use Prim.Native.Nat.{ℕ, _<_, _≤_}
 use mathlib.Core.Bool.{Bool, true, false}
 use mathlib.Core.List.{List, [], _∷_}
 use native.Mathlib.Omega.{arith}
 use lib.Dec.{ltb}
 use lib.ListN.{length, getD, List·getD-eq-default}
 use borrow.Author.Tests.{ltb-true, ltb-false}
-use Rattle.score.specs.declared.Verdict.{Verdict}
-use Rattle.score.specs.declared.Verdict.the-variants.{Fine, Refused}
+use Rattle.base.specs.Checks.{Check, fine, refused, need, firstFault}
+use Rattle.score.specs.declared.Fault.{Fault}
 use Rattle.score.specs.declared.Fault.the-variants.{NoMessage}
-use Rattle.score.specs.declared.Counts.{Counts}
-use Rattle.score.specs.Limits.{messageSize}
 use Rattle.score.specs.Bytes.{part}
-use Rattle.score.specs.Replies.{need, first}
 use Rattle.score.specs.Contents.{countsOf}
-use Rattle.score.specs.Messages.{labelAt, labelsAt}
+use Rattle.score.specs.Messages.{labelAt}
 use Rattle.score.specs.Piece.{decode}
 use Rattle.score.specs.File.{Accepted}
 use Rattle.score.specs.LookUp.{labelReply, labelSpan, granted}
+use Rattle.score.proofs.Decoded.{labels-at, labels-decoded}
 use Rattle.demands.specs.Answers.{labelBytes}
 
-labels-length : (f : List ℕ) (c : Counts) (at count : ℕ) → length (labelsAt f c at count) ≡ count
-unfolding labelsAt
-labels-length f c at zero = refl
-labels-length f c at (suc n) = ap suc (labels-length f c (at + messageSize) n)
-
-labels-at : (f : List ℕ) (c : Counts) (at count n : ℕ) → n < count → getD (labelsAt f c at count) n [] ≡ labelAt f c (at + messageSize * n)
-unfolding labelsAt
-labels-at f c at zero n h = absurd (omega arith)
-labels-at f c at (suc k) zero h = let e : at ≡ at + 4 * 0 = omega arith in rw (← e)
-labels-at f c at (suc k) (suc n) h =
-    let e : at + 4 + 4 * n ≡ at + 4 * suc n = omega arith in
-    labels-at f c (at + messageSize) k n (omega arith) ∙ ap (labelAt f c) e
-
-label-count : (f : List ℕ) → length (decode f .labels) ≡ countsOf f .messages
-unfolding decode
-label-count f = labels-length f (countsOf f) _ (countsOf f .messages)
-
 -- The reply: whether there is such a label.
-unfoldable pub found : List (List ℕ) → ℕ → Verdict
+unfoldable pub found : List (List ℕ) → ℕ → Check Fault
 found ls n = need (ltb n (length ls)) NoMessage
 
 pub reply-found : (f : List ℕ) → Accepted f → (n : ℕ) → labelReply f n ≡ found (decode f .labels) n
-unfolding labelReply found first need
-reply-found f a n = rw (a .fine, label-count f) (go (ltb n (countsOf f .messages)))
+unfolding labelReply found firstFault need
+reply-found f a n = rw (a .fine, labels-decoded f) (go (ltb n (countsOf f .messages)))
   where
-    go : (t : Bool) → first (need t NoMessage ∷ []) ≡ need t NoMessage
+    go : (t : Bool) → firstFault (need t NoMessage ∷ []) ≡ need t NoMessage
     go true = refl
     go false = refl
 
 -- The bytes: that label, and none where there is none.
-granted-bytes : (f : List ℕ) (n : ℕ) → labelReply f n ≡ Fine → n < countsOf f .messages → labelBytes f n ≡ getD (decode f .labels) n []
+granted-bytes : (f : List ℕ) (n : ℕ) → labelReply f n ≡ fine → n < countsOf f .messages → labelBytes f n ≡ getD (decode f .labels) n []
 unfolding labelBytes labelSpan granted decode labelAt part
-granted-bytes f n e h = rw (e, granted) (sym (labels-at f (countsOf f) _ (countsOf f .messages) n h))
+granted-bytes f n e h = rw (e, granted) (sym (labels-at f (countsOf f) _ (countsOf f .messages) n [] h))
 
-refused-bytes : (f : List ℕ) (n : ℕ) → labelReply f n ≡ Refused NoMessage → labelBytes f n ≡ []
+refused-bytes : (f : List ℕ) (n : ℕ) → labelReply f n ≡ refused NoMessage → labelBytes f n ≡ []
 unfolding labelBytes labelSpan granted
 refused-bytes f n e = rw (e, granted)
 
@@ -66,9 +47,8 @@ bytes-found f a n = go (ltb n (length (decode f .labels))) refl
   where
     go : (t : Bool) → ltb n (length (decode f .labels)) ≡ t → labelBytes f n ≡ getD (decode f .labels) n []
     go true e =
-        let l : n < length (decode f .labels) = ltb-true _ _ e in
-        let h : n < countsOf f .messages = omega (arith, label-count f) in
-        granted-bytes f n (reply-found f a n ∙ rw e) h
+        let h : n < length (decode f .labels) = ltb-true _ _ e in
+        granted-bytes f n (reply-found f a n ∙ rw e) (omega (arith, labels-decoded f))
     go false e =
         let h : length (decode f .labels) ≤ n = ltb-false _ _ e in
         refused-bytes f n (reply-found f a n ∙ rw e) ∙ sym (List·getD-eq-default (decode f .labels) [] h)

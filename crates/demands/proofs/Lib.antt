@@ -1,4 +1,3 @@
--- The demands as theorems over whole runs of calls (Demand1, Demand2, Demands), and the laws that they rest on.
 pub mod Ordered
 pub mod Parts
 pub mod Paged
@@ -18,23 +17,9 @@ pub mod Count
 pub mod Bits
 pub mod Room
 pub mod Sorts
-pub mod Demands
-pub mod TieShows
-pub mod TieDue
-pub mod TieSettled
-pub mod TieOutcomes
-pub mod TieNesting
-pub mod TieRuns
-pub mod TieActions
-pub mod TieFair
-pub mod TieDelays
-pub mod TieTaken
-pub mod TieHolds
-pub mod TieFinish
-pub mod TieReading
-pub mod TieNoted
-pub mod TieCalls
-pub mod TieOpened
-pub mod TieAnswers
-pub mod Demand2
+pub mod MemoryAndHistory
+pub mod Terms
 pub mod Demand1
+pub mod Demand2
+pub mod Demand2Sent
+pub mod Demand3

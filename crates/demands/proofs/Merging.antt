@@ -11,7 +11,7 @@ use Rattle.base.specs.Only.{only}
 use Rattle.demands.specs.Messages.{Sent, insert, order}
 use Rattle.demands.specs.Demands.{either, onlyParts, comesBefore, weave, merge}
 use Rattle.demands.proofs.Ordered.{insert-ahead, insert-behind, Place, ahead, behind, place}
-use Rattle.demands.proofs.Parts.{only-in, only-out}
+use Rattle.demands.proofs.Parts.{part-in, part-out}
 use Rattle.demands.proofs.Paged.{comes-earlier, comes-later, comes-first, comes-second, before-due, after-due, Past, none, one, Paged, empty, link, past-order, past-only}
 
 -- ---- one step of a merge
@@ -124,17 +124,17 @@ either-right S U p e = rw e
 
 pub merged : (S U : ℕ → Bool) → ((p : ℕ) → S p ≡ true → U p ≡ false) → {l : List Sent} → Paged l
     → order (onlyParts (either S U) l) ≡ merge (order (onlyParts S l)) (order (onlyParts U l))
-unfolding order onlyParts only merge
+unfolding order only merge
 merged S U d empty = refl
 merged S U d (link {x = x} {l = l} p q) = go (S (x .part)) (U (x .part)) refl refl (merged S U d q)
   where
     go : (a b : Bool) → S (x .part) ≡ a → U (x .part) ≡ b → order (onlyParts (either S U) l) ≡ merge (order (onlyParts S l)) (order (onlyParts U l))
         → order (onlyParts (either S U) (x ∷ l)) ≡ merge (order (onlyParts S (x ∷ l))) (order (onlyParts U (x ∷ l)))
     go true b e f ih =
-        rw (only-in (either S U) x l (either-left S U (x .part) e), only-in S x l e, only-out U x l (d (x .part) e))
+        rw (part-in (either S U) x l (either-left S U (x .part) e), part-in S x l e, part-out U x l (d (x .part) e))
         (ap (insert x) ih ∙ sym (insert-left x (order (onlyParts S l)) (past-order (past-only U p))))
     go false true e f ih =
-        rw (only-in (either S U) x l (either-right S U (x .part) e ∙ f), only-out S x l e, only-in U x l f)
+        rw (part-in (either S U) x l (either-right S U (x .part) e ∙ f), part-out S x l e, part-in U x l f)
         (ap (insert x) ih ∙ sym (insert-right x (order (onlyParts U l)) (past-order (past-only S p))))
     go false false e f ih =
-        rw (only-out (either S U) x l (either-right S U (x .part) e ∙ f), only-out S x l e, only-out U x l f) ih
+        rw (part-out (either S U) x l (either-right S U (x .part) e ∙ f), part-out S x l e, part-out U x l f) ih

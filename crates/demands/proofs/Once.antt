@@ -12,12 +12,15 @@ use lib.ListN.{length}
 use borrow.Author.Tests.{leb-true, le-leb, eqb-true, ne-eqb}
 use Rattle.page.specs.declared.Item.{Item}
 use Rattle.base.specs.Tests.{pick}
+use Rattle.rules.specs.Terms.{Terms}
 use Rattle.rules.specs.Rules.{readingOf, Outcome, played, dropped, undecided}
 use Rattle.rules.specs.Page.{Entry, entries, Cue, cues}
-use Rattle.sequencer.specs.Calls.{Grant, granted, refused}
+use Rattle.rules.specs.Parts.{soundingEntries}
+use Rattle.session.specs.declared.Refusal.{Refusal}
+use Rattle.base.specs.Checks.{Check, fine, refused}
 use Rattle.demands.specs.History.{Call, note, pass, report, lookUp, Hearing, Now, start, heardEvents, verdict, moved, kept, after}
-use Rattle.demands.specs.Messages.{When, never, since, whenHeard, reached, Sent, firstTime, sends, firsts, sounding, sentBetween}
-use Rattle.demands.specs.Answers.{messagesOf, ifGranted, messagesAt}
+use Rattle.demands.specs.Messages.{When, never, since, whenHeard, reached, Sent, firstTime, sends, firsts, sentBetween}
+use Rattle.demands.specs.Answers.{messagesOf, ifGranted, messagesBy}
 use Rattle.demands.specs.Demands.{afterAll, sentBy, joined, tally, atPlace}
 use Rattle.demands.proofs.Ordered.{tally-order}
 use Rattle.demands.proofs.Paged.{Past, none, one, Paged, empty, link}
@@ -57,8 +60,8 @@ module _ (t : Sent → Bool) where
   new-first true m x y z e = bump-right (t m) _ _ _ e
   new-first false m x y z e = e
 
-  -- u is the tempo of the opening
-  module _ (u : ℕ) (s n : Now) (later : s .clock ≤ n .clock) where
+  -- u are the terms of the opening
+  module _ (u : Terms) (s n : Now) (later : s .clock ≤ n .clock) where
     abbrev cueOf : (place part message : ℕ) → Outcome → Cue
     cueOf a p m o = record { place = a; part = p; message = m; outcome = o }
 
@@ -98,7 +101,7 @@ still-firsts s (c ∷ l) = still-sends s c (c .outcome) (firsts s s l) ∙ still
 
 module _ (ds : List ℕ) (es : List Entry) where
   abbrev page : Now → List Cue
-  page s = cues (readingOf ds (heardEvents (s .hearings))) es
+  page s = cues (readingOf (s .terms) ds (heardEvents (s .hearings))) es
 
   -- From s to n: the clock does not go back, what is played stays with its clock reading, and what is newly played was not heard before.
   record Led (s n : Now) : Type 0 where
@@ -106,23 +109,23 @@ module _ (ds : List ℕ) (es : List Entry) where
     all : AllBecome (s .hearings) (n .hearings) (s .clock) (page s) (page n)
 
   led-same : (s : Now) → Led s s
-  led-same s = record { later = le-refl (s .clock); all = pass-becomes ds (s .hearings) (s .clock) es }
+  led-same s = record { later = le-refl (s .clock); all = pass-becomes (s .terms) ds (s .hearings) (s .clock) es }
 
-  led-moved : (s : Now) (c : Call) → UpToLast s → verdict (length ds) s c ≡ granted → Led s (moved s c)
+  led-moved : (s : Now) (c : Call) → UpToLast s → verdict (length ds) s c ≡ fine → Led s (moved s c)
   unfolding moved
   led-moved s (note room h tempo) o e =
       let f = granted-fits (length ds) s room h tempo e in
       let x : Hearing = record { event = h; clock = s .clock } in
-      let q = note-becomes ds (s .hearings) x (f .few) (below-note (length ds) s h o f) es in
+      let q = note-becomes (s .terms) ds (s .hearings) x (f .few) (below-note (length ds) s h o f) es in
       record { later = le-refl (s .clock); all = rw (heard-one-more (s .hearings) x) q }
-  led-moved s (pass room ms) o e = record { later = omega arith; all = pass-becomes ds (s .hearings) (s .clock) es }
+  led-moved s (pass room ms) o e = record { later = omega arith; all = pass-becomes (s .terms) ds (s .hearings) (s .clock) es }
   led-moved s report o e = led-same s
   led-moved s (lookUp n) o e = led-same s
 
   -- What a call sends is reached between the moment before it and the moment after.
   record Next (s : Now) (c : Call) : Type 0 where
     led : Led s (after (length ds) s c)
-    said : (t : Sent → Bool) → tally t (messagesAt ds es s c) ≡ tally t (firsts s (after (length ds) s c) (page (after (length ds) s c)))
+    said : (t : Sent → Bool) → tally t (messagesBy ds es s c) ≡ tally t (firsts s (after (length ds) s c) (page (after (length ds) s c)))
 
   said-granted : (s : Now) (c : Call) (t : Sent → Bool) → tally t (messagesOf ds es s c) ≡ tally t (firsts s (moved s c) (page (moved s c)))
   unfolding messagesOf sentBetween moved
@@ -132,11 +135,11 @@ module _ (ds : List ℕ) (es : List Entry) where
   said-granted s (lookUp n) t = rw (still-firsts s (page s))
 
   next : (s : Now) (c : Call) → UpToLast s → Next s c
-  unfolding after kept messagesAt ifGranted
+  unfolding after kept messagesBy ifGranted
   next s c o = go (verdict (length ds) s c) refl
     where
-      go : (g : Grant) → verdict (length ds) s c ≡ g → Next s c
-      go granted e = record { led = rw (e, kept) (led-moved s c o e); said = λ t. rw (e, kept, ifGranted) (said-granted s c t) }
+      go : (g : Check Refusal) → verdict (length ds) s c ≡ g → Next s c
+      go fine e = record { led = rw (e, kept) (led-moved s c o e); said = λ t. rw (e, kept, ifGranted) (said-granted s c t) }
       go (refused x) e = record { led = rw (e, kept) (led-same s); said = λ t. rw (e, kept, ifGranted, still-firsts s (page s)) }
 
   -- ---- a list of calls
@@ -151,20 +154,20 @@ module _ (ds : List ℕ) (es : List Entry) where
     tally-append [] k = omega arith
     tally-append (x ∷ l) k = sym (bump-left t (t x) (tally t l) (tally t k) _ (sym (tally-append l k)))
 
-    due-on : (u : ℕ) (s : Now) (cs : List Call) → UpToLast s
+    due-on : (u : Terms) (s : Now) (cs : List Call) → UpToLast s
         → tally t (firsts (start u) s (page s)) + tally t (joined (sentBy ds es s cs)) ≡ tally t (firsts (start u) (afterAll (length ds) s cs) (page (afterAll (length ds) s cs)))
     unfolding afterAll sentBy joined tally
     due-on u s [] o = omega arith
     due-on u s (c ∷ cs) o =
         let n = after (length ds) s c in
         let x = next s c o in
-        let a = tally-append (messagesAt ds es s c) (joined (sentBy ds es n cs)) in
+        let a = tally-append (messagesBy ds es s c) (joined (sentBy ds es n cs)) in
         let b = two-lists t u s n (x .led .later) (x .led .all) in
         let d = due-on u n cs (after-up-to-last (length ds) s c o) in
         omega (arith, a, b, d, x .said t)
 
     -- The messages of all calls are those that have come due by their end, each as often: "sent at the first call [..] whose clock has reached the due date".
-    pub sent-once : (u : ℕ) (cs : List Call) → tally t (joined (sentBy ds es (start u) cs)) ≡ tally t (sentBetween ds es (start u) (afterAll (length ds) (start u) cs))
+    pub sent-once : (u : Terms) (cs : List Call) → tally t (joined (sentBy ds es (start u) cs)) ≡ tally t (sentBetween ds es (start u) (afterAll (length ds) (start u) cs))
     unfolding sentBetween
     sent-once u cs =
         let none-yet : tally t (firsts (start u) (start u) (page (start u))) ≡ 0 = ap (tally t) (still-firsts (start u) (page (start u))) ∙ tally-none in
@@ -187,11 +190,11 @@ tally-paged a (link {x = x} {l = l} p r) = go (eqb (x .place) a) refl (tally-pag
     go false e h = h
 
 -- Of a table, whatever sounds: "one for each written action", and none a second time.
-pub place-once : (S : ℕ → Bool) (ds : List ℕ) (is : List Item) (u : ℕ) (cs : List Call) (p : ℕ)
-    → tally (atPlace p) (joined (sentBy ds (sounding S (entries is)) (start u) cs)) ≤ 1
+pub place-once : (S : ℕ → Bool) (ds : List ℕ) (is : List Item) (u : Terms) (cs : List Call) (p : ℕ)
+    → tally (atPlace p) (joined (sentBy ds (soundingEntries S (entries is)) (start u) cs)) ≤ 1
 unfolding sentBetween
 place-once S ds is u cs p =
     let n = afterAll (length ds) (start u) cs in
-    let R = readingOf ds (heardEvents (n .hearings)) in
-    let es = sounding S (entries is) in
+    let R = readingOf (n .terms) ds (heardEvents (n .hearings)) in
+    let es = soundingEntries S (entries is) in
     omega (arith, sent-once ds es (atPlace p) u cs, tally-order (atPlace p) (firsts (start u) n (cues R es)), tally-paged p (sounding-paged S R (start u) n is))

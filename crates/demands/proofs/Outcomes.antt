@@ -12,6 +12,8 @@ use lib.ListN.{length}
 use borrow.Author.Tests.{ltb-true, eq-eqb, ne-eqb}
 use Rattle.base.specs.Tests.{pick}
 use Rattle.base.proofs.TestLaws.{between-low, between-high}
+use Rattle.base.proofs.CheckLaws.{first-rest, first-holds}
+use Rattle.rules.specs.Terms.{Terms}
 use Rattle.rules.specs.Rules.{readingOf, Outcome, played, dropped, undecided}
 use Rattle.rules.specs.Page.{Entry, Cue, cues}
 use Rattle.rules.specs.Settled.{Below, nothing-heard, heard-before, Settles, stays, drops, plays, SettledCues, no-cues, settled-cue}
@@ -19,8 +21,8 @@ use Rattle.rules.proofs.HeardLaws.{below-up, below-one-more}
 use Rattle.rules.proofs.Events.{OutcomeOn}
 use Rattle.rules.proofs.Grow.{settled-cues}
 use Rattle.rules.proofs.Sound.{PlayedIn, no-cue, played-in, played-at-heard}
-use Rattle.sequencer.specs.declared.Refusal.{Refusal}
-use Rattle.sequencer.specs.Calls.{Check, must, Grant, granted, refused, firstOf}
+use Rattle.session.specs.declared.Refusal.{Refusal}
+use Rattle.base.specs.Checks.{Check, fine, refused}
 use Rattle.demands.specs.History.{Call, note, pass, report, lookUp, Hearing, Now, start, heardEvents, verdict, moved, kept, after}
 use Rattle.demands.specs.Messages.{never, since, whenHeard}
 use Rattle.demands.specs.Demands.{afterAll}
@@ -104,14 +106,14 @@ still-become : (hs : List Hearing) (c : ℕ) {l : List Cue} → PlayedIn (heardE
 still-become hs c no-cue = none
 still-become hs c (played-in {c = x} q p) = one (still-becomes hs c (x .outcome) q) (still-become hs c p)
 
-pub pass-becomes : (ds : List ℕ) (hs : List Hearing) (c : ℕ) (es : List Entry)
-    → AllBecome hs hs c (cues (readingOf ds (heardEvents hs)) es) (cues (readingOf ds (heardEvents hs)) es)
-pass-becomes ds hs c es = still-become hs c (played-at-heard ds (heardEvents hs) es)
+pub pass-becomes : (o : Terms) (ds : List ℕ) (hs : List Hearing) (c : ℕ) (es : List Entry)
+    → AllBecome hs hs c (cues (readingOf o ds (heardEvents hs)) es) (cues (readingOf o ds (heardEvents hs)) es)
+pass-becomes o ds hs c es = still-become hs c (played-at-heard o ds (heardEvents hs) es)
 
 -- A heard note: x is its hearing.
-pub note-becomes : (ds : List ℕ) (hs : List Hearing) (x : Hearing) → x .event ≤ length ds → Below (x .event) (heardEvents hs) → (es : List Entry)
-    → AllBecome hs (hs ++ (x ∷ [])) (x .clock) (cues (readingOf ds (heardEvents hs)) es) (cues (readingOf ds (heardEvents hs ++ (x .event ∷ []))) es)
-note-becomes ds hs x f b es = all-become hs x b (played-at-heard ds (heardEvents hs) es) (settled-cues ds (heardEvents hs) (x .event) f b es)
+pub note-becomes : (o : Terms) (ds : List ℕ) (hs : List Hearing) (x : Hearing) → x .event ≤ length ds → Below (x .event) (heardEvents hs) → (es : List Entry)
+    → AllBecome hs (hs ++ (x ∷ [])) (x .clock) (cues (readingOf o ds (heardEvents hs)) es) (cues (readingOf o ds (heardEvents hs ++ (x .event ∷ []))) es)
+note-becomes o ds hs x f b es = all-become hs x b (played-at-heard o ds (heardEvents hs) es) (settled-cues o ds (heardEvents hs) (x .event) f b es)
 
 -- ---- the moments that calls lead to
 
@@ -119,33 +121,27 @@ note-becomes ds hs x f b es = all-become hs x b (played-at-heard ds (heardEvents
 pub record UpToLast (s : Now) : Type 0 where
   pub below : Below (suc (s .last)) (heardEvents (s .hearings))
 
-pub start-up-to-last : (tempo : ℕ) → UpToLast (start tempo)
+pub start-up-to-last : (o : Terms) → UpToLast (start o)
 unfolding start heardEvents
-start-up-to-last tempo = record { below = nothing-heard }
-
-must-hold : (b : Bool) (x : Refusal) (l : List Check) → firstOf (must b x ∷ l) ≡ granted → (b ≡ true) × (firstOf l ≡ granted)
-unfolding firstOf
-must-hold true x l e = (refl, e)
-must-hold false x l e = let z : _≡_ {A = ℕ} 0 1 = cc in absurd (omega arith)
+start-up-to-last o = record { below = nothing-heard }
 
 -- "event number 0 or above the last", "event not after the last one heard" are refused.
-pub record Fits (events last h : ℕ) : Type 0 where
+pub record NextEvent (events last h : ℕ) : Type 0 where
   pub some : 1 ≤ h
   pub few : h ≤ events
   pub next : last < h
 
-pub granted-fits : (events : ℕ) (s : Now) (room : List ℕ) (h tempo : ℕ) → verdict events s (note room h tempo) ≡ granted → Fits events (s .last) h
+pub granted-fits : (events : ℕ) (s : Now) (room : List ℕ) (h tempo : ℕ) → verdict events s (note room h tempo) ≡ fine → NextEvent events (s .last) h
 unfolding verdict
 granted-fits events s room h tempo e =
-    let a = must-hold _ _ _ e in
-    let b = must-hold _ _ _ (a .1) in
-    let c = must-hold _ _ _ (b .1) in
-    record { some = between-low 1 events h (b .0); few = between-high 1 events h (b .0); next = ltb-true _ _ (c .0) }
+    let event = first-rest _ _ e in
+    let known = first-holds _ _ _ event in
+    record { some = between-low 1 events h known; few = between-high 1 events h known; next = ltb-true _ _ (first-holds _ _ _ (first-rest _ _ event)) }
 
-pub below-note : (events : ℕ) (s : Now) (h : ℕ) → UpToLast s → Fits events (s .last) h → Below h (heardEvents (s .hearings))
+pub below-note : (events : ℕ) (s : Now) (h : ℕ) → UpToLast s → NextEvent events (s .last) h → Below h (heardEvents (s .hearings))
 below-note events s h o f = below-up (suc (s .last)) h (f .next) (o .below)
 
-pub moved-up-to-last : (events : ℕ) (s : Now) (c : Call) → verdict events s c ≡ granted → UpToLast s → UpToLast (moved s c)
+pub moved-up-to-last : (events : ℕ) (s : Now) (c : Call) → verdict events s c ≡ fine → UpToLast s → UpToLast (moved s c)
 unfolding moved
 moved-up-to-last events s (note room h tempo) e o =
     let f = granted-fits events s room h tempo e in
@@ -158,8 +154,8 @@ pub after-up-to-last : (events : ℕ) (s : Now) (c : Call) → UpToLast s → Up
 unfolding after kept
 after-up-to-last events s c o = go (verdict events s c) refl
   where
-    go : (g : Grant) → verdict events s c ≡ g → UpToLast (kept g s (moved s c))
-    go granted e = moved-up-to-last events s c e o
+    go : (g : Check Refusal) → verdict events s c ≡ g → UpToLast (kept g s (moved s c))
+    go fine e = moved-up-to-last events s c e o
     go (refused x) e = o
 
 pub all-up-to-last : (events : ℕ) (s : Now) (cs : List Call) → UpToLast s → UpToLast (afterAll events s cs)

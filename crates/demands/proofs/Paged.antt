@@ -12,7 +12,7 @@ use Rattle.base.specs.Only.{only}
 use Rattle.demands.specs.Messages.{Sent, insert, order}
 use Rattle.demands.specs.Demands.{onlyParts, comesBefore, InOrder, no-more, then}
 use Rattle.demands.proofs.Ordered.{insert-ahead, insert-behind, Place, ahead, behind, place, in-insert}
-use Rattle.demands.proofs.Parts.{only-in, only-out}
+use Rattle.demands.proofs.Parts.{part-in, part-out}
 
 -- ---- which message comes before the other
 
@@ -80,22 +80,22 @@ past-order none = none
 past-order (one {x = x} p q) = past-insert x p (past-order q)
 
 pub past-only : (S : ℕ → Bool) {a : ℕ} {l : List Sent} → Past a l → Past a (onlyParts S l)
-unfolding onlyParts only
+unfolding only
 past-only S none = none
 past-only S {a} (one {x = x} {l = l} p q) = go (S (x .part)) refl (past-only S q)
   where
     go : (t : Bool) → S (x .part) ≡ t → Past a (onlyParts S l) → Past a (onlyParts S (x ∷ l))
-    go true e r = rw (only-in S x l e) (one p r)
-    go false e r = rw (only-out S x l e) r
+    go true e r = rw (part-in S x l e) (one p r)
+    go false e r = rw (part-out S x l e) r
 
 pub paged-only : (S : ℕ → Bool) {l : List Sent} → Paged l → Paged (onlyParts S l)
-unfolding onlyParts only
+unfolding only
 paged-only S empty = empty
 paged-only S (link {x = x} {l = l} p r) = go (S (x .part)) refl (paged-only S r)
   where
     go : (t : Bool) → S (x .part) ≡ t → Paged (onlyParts S l) → Paged (onlyParts S (x ∷ l))
-    go true e ih = rw (only-in S x l e) (link (past-only S p) ih)
-    go false e ih = rw (only-out S x l e) ih
+    go true e ih = rw (part-in S x l e) (link (past-only S p) ih)
+    go false e ih = rw (part-out S x l e) ih
 
 -- ---- each before all that follow it
 

@@ -11,11 +11,13 @@ use Rattle.page.specs.declared.Item.{Item}
 use Rattle.rules.specs.Rules.{Reading, readingOf, Outcome, played, dropped, undecided}
 use Rattle.rules.specs.Page.{entries, Cue, cues}
 use Rattle.rules.specs.Written.{Written, actionsIn, Placed, no-actions, placed}
+use Rattle.rules.specs.Parts.{soundingEntries}
 use Rattle.rules.proofs.Places.{cues-placed}
-use Rattle.sequencer.specs.Calls.{Grant, granted, refused}
+use Rattle.session.specs.declared.Refusal.{Refusal}
+use Rattle.base.specs.Checks.{Check, fine, refused}
 use Rattle.demands.specs.History.{Call, note, pass, report, lookUp, Now, heardEvents}
-use Rattle.demands.specs.Messages.{Sent, firstTime, sends, firsts, sounding, sentBetween}
-use Rattle.demands.specs.Answers.{messagesOf, ifGranted, messagesAt}
+use Rattle.demands.specs.Messages.{Sent, firstTime, sends, firsts, sentBetween}
+use Rattle.demands.specs.Answers.{messagesOf, ifGranted, messagesBy}
 use Rattle.demands.specs.Demands.{InOrder, no-more}
 use Rattle.demands.proofs.Parts.{only-firsts}
 use Rattle.demands.proofs.Paged.{Past, none, one, Paged, empty, link, paged-only, order-in-order}
@@ -62,28 +64,28 @@ pub firsts-paged : (R : Reading) (s n : Now) (is : List Item) → Paged (firsts 
 firsts-paged R s n is = sent-paged (firsts-rise s n (cues R (entries is)) (cues-placed R is) refl)
 
 -- Of the sounding parts too.
-pub sounding-paged : (S : ℕ → Bool) (R : Reading) (s n : Now) (is : List Item) → Paged (firsts s n (cues R (sounding S (entries is))))
+pub sounding-paged : (S : ℕ → Bool) (R : Reading) (s n : Now) (is : List Item) → Paged (firsts s n (cues R (soundingEntries S (entries is))))
 sounding-paged S R s n is = rw (← only-firsts S s n R (entries is)) (paged-only S (firsts-paged R s n is))
 
 -- ---- so each call's messages are in order
 
-none-in-order : (g : Grant) → InOrder (ifGranted g [])
+none-in-order : (g : Check Refusal) → InOrder (ifGranted g [])
 unfolding ifGranted
-none-in-order granted = no-more
+none-in-order fine = no-more
 none-in-order (refused x) = no-more
 
-granted-in-order : (g : Grant) (l : List Sent) → InOrder l → InOrder (ifGranted g l)
+granted-in-order : (g : Check Refusal) (l : List Sent) → InOrder l → InOrder (ifGranted g l)
 unfolding ifGranted
-granted-in-order granted l r = r
+granted-in-order fine l r = r
 granted-in-order (refused x) l r = no-more
 
 module _ (S : ℕ → Bool) (ds : List ℕ) (is : List Item) where
-  between-in-order : (s n : Now) → InOrder (sentBetween ds (sounding S (entries is)) s n)
+  between-in-order : (s n : Now) → InOrder (sentBetween ds (soundingEntries S (entries is)) s n)
   unfolding sentBetween
-  between-in-order s n = order-in-order (sounding-paged S (readingOf ds (heardEvents (n .hearings))) s n is)
+  between-in-order s n = order-in-order (sounding-paged S (readingOf (n .terms) ds (heardEvents (n .hearings))) s n is)
 
-  pub sent-in-order : (s : Now) (c : Call) → InOrder (messagesAt ds (sounding S (entries is)) s c)
-  unfolding messagesAt messagesOf
+  pub sent-in-order : (s : Now) (c : Call) → InOrder (messagesBy ds (soundingEntries S (entries is)) s c)
+  unfolding messagesBy messagesOf
   sent-in-order s (note room h tempo) = granted-in-order _ _ (between-in-order s _)
   sent-in-order s (pass room ms) = granted-in-order _ _ (between-in-order s _)
   sent-in-order s report = none-in-order _

@@ -7,7 +7,8 @@ use mathlib.Core.List.{List, [], _∷_, map}
 use native.Mathlib.Omega.{arith}
 use lib.Dec.{leb}
 use borrow.Author.Tests.{leb-true, leb-false, le-leb, lt-leb}
-use Rattle.sequencer.specs.Sending.{Message, behind, ordered}
+use Rattle.sending.specs.Room.{Message}
+use Rattle.sending.specs.Sending.{behind, ordered}
 use Rattle.demands.specs.Messages.{Sent, insert, order}
 use Rattle.demands.specs.Answers.{messageOf}
 use Rattle.demands.proofs.Ordered

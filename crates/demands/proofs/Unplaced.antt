@@ -10,11 +10,12 @@ use Rattle.rules.specs.Rules.{readingOf, Outcome, played, dropped, undecided}
 use Rattle.rules.specs.Page.{Entry, Cue, cues}
 use Rattle.rules.specs.Parts.{placeless}
 use Rattle.rules.proofs.Placeless.{bareEntries, cues-bare}
-use Rattle.sequencer.specs.Sending.{Message}
-use Rattle.sequencer.specs.Calls.{Grant, granted, refused}
+use Rattle.sending.specs.Room.{Message}
+use Rattle.session.specs.declared.Refusal.{Refusal}
+use Rattle.base.specs.Checks.{Check, fine, refused}
 use Rattle.demands.specs.History.{Call, note, pass, report, lookUp, Now, heardEvents, verdict, after}
 use Rattle.demands.specs.Messages.{Sent, firstTime, sends, firsts, insert, order, sentBetween}
-use Rattle.demands.specs.Answers.{Answer, messageOf, sendingAnswer, labelBytes, messagesOf, ifGranted, messagesAt, answer, answers}
+use Rattle.demands.specs.Answers.{Answer, messageOf, sendingAnswer, labelBytes, messagesOf, ifGranted, messagesBy, answer, answers}
 use Rattle.demands.proofs.Ordered.{insert-ahead, insert-behind, Place, ahead, behind, place}
 
 -- ---- messages without their page places
@@ -65,7 +66,7 @@ order-bare (x ∷ l) = rw (order-bare l) (insert-bare x (order l))
 between-bare : (ds : List ℕ) (es : List Entry) (s n : Now) → sentBetween ds (bareEntries es) s n ≡ bares (sentBetween ds es s n)
 unfolding sentBetween
 between-bare ds es s n =
-    let R = readingOf ds (heardEvents (n .hearings)) in
+    let R = readingOf (n .terms) ds (heardEvents (n .hearings)) in
     rw (cues-bare R es, firsts-bare s n (cues R es)) (order-bare _)
 
 words-bare : (l : List Sent) → map messageOf (bares l) ≡ map messageOf l
@@ -92,17 +93,17 @@ module _ (ds : List ℕ) (es fs : List Entry) (alike : bareEntries es ≡ bareEn
   lengths : (l k : List Sent) → map messageOf l ≡ map messageOf k → length l ≡ length k
   lengths l k e = sym (length-map l messageOf) ∙ (ap length e ∙ length-map k messageOf)
 
-  total-alike : (s : Now) (c : Call) → length (messagesAt ds es s c) ≡ length (messagesAt ds fs s c)
-  unfolding messagesAt ifGranted
+  total-alike : (s : Now) (c : Call) → length (messagesBy ds es s c) ≡ length (messagesBy ds fs s c)
+  unfolding messagesBy ifGranted
   total-alike s c = go (verdict (length ds) s c)
     where
-      go : (g : Grant) → length (ifGranted g (messagesOf ds es s c)) ≡ length (ifGranted g (messagesOf ds fs s c))
-      go granted = lengths (messagesOf ds es s c) (messagesOf ds fs s c) (messages-alike s c)
+      go : (g : Check Refusal) → length (ifGranted g (messagesOf ds es s c)) ≡ length (ifGranted g (messagesOf ds fs s c))
+      go fine = lengths (messagesOf ds es s c) (messagesOf ds fs s c) (messages-alike s c)
       go (refused x) = refl
 
-  sending-alike : (g : Grant) (l k : List Sent) (room : List ℕ) → map messageOf l ≡ map messageOf k → sendingAnswer g l room ≡ sendingAnswer g k room
+  sending-alike : (g : Check Refusal) (l k : List Sent) (room : List ℕ) → map messageOf l ≡ map messageOf k → sendingAnswer g l room ≡ sendingAnswer g k room
   unfolding sendingAnswer
-  sending-alike granted l k room e = rw (e, lengths l k e)
+  sending-alike fine l k room e = rw (e, lengths l k e)
   sending-alike (refused x) l k room e = refl
 
   module _ (f g : List ℕ) (found : (n : ℕ) → labelReply f n ≡ labelReply g n) (bytes : (n : ℕ) → labelBytes f n ≡ labelBytes g n) where
@@ -118,4 +119,4 @@ module _ (ds : List ℕ) (es fs : List Entry) (alike : bareEntries es ≡ bareEn
     answers-alike total s [] = refl
     answers-alike total s (c ∷ cs) =
         rw (answer-alike total s c, total-alike s c)
-        (ap (λ (l : List Answer). answer g ds fs total s c ∷ l) (answers-alike (total + length (messagesAt ds fs s c)) (after (length ds) s c) cs))
+        (ap (λ (l : List Answer). answer g ds fs total s c ∷ l) (answers-alike (total + length (messagesBy ds fs s c)) (after (length ds) s c) cs))

@@ -10,10 +10,11 @@ use borrow.Author.Tests.{leb-true, leb-false}
 use Rattle.base.specs.Tests.{pick}
 use Rattle.rules.specs.Rules.{Outcome, played, dropped, undecided}
 use Rattle.rules.specs.Page.{Entry, Cue}
-use Rattle.sequencer.specs.Calls.{Grant, granted, refused}
+use Rattle.session.specs.declared.Refusal.{Refusal}
+use Rattle.base.specs.Checks.{Check, fine, refused}
 use Rattle.demands.specs.History.{note, pass, Hearing, Now, moved}
 use Rattle.demands.specs.Messages.{When, never, since, whenHeard, dueDate, reached, Sent, firstTime, sends, firsts, sentBetween}
-use Rattle.demands.specs.Answers.{messagesOf, ifGranted, messagesAt}
+use Rattle.demands.specs.Answers.{messagesOf, ifGranted, messagesBy}
 use Rattle.demands.proofs.Ordered.{in-order}
 use Rattle.demands.proofs.Outcomes.{since-stays}
 
@@ -95,18 +96,18 @@ note-by s room h tempo b = b .due ∙ note-window s (record { event = h; clock =
 
 -- ---- call by call
 
-in-granted : {x : Sent} (g : Grant) (l : List Sent) → List·Memᴰ x (ifGranted g l) → List·Memᴰ x l
+in-granted : {x : Sent} (g : Check Refusal) (l : List Sent) → List·Memᴰ x (ifGranted g l) → List·Memᴰ x l
 unfolding ifGranted
-in-granted granted l m = m
+in-granted fine l m = m
 in-granted (refused y) l m = elim m [ ]
 
 -- Passing time sends what came due while it passed,
-pub pass-window : (ds : List ℕ) (es : List Entry) (s : Now) (room : List ℕ) (ms : ℕ) (x : Sent) → List·Memᴰ x (messagesAt ds es s (pass room ms))
+pub pass-window : (ds : List ℕ) (es : List Entry) (s : Now) (room : List ℕ) (ms : ℕ) (x : Sent) → List·Memᴰ x (messagesBy ds es s (pass room ms))
     → (s .clock < x .due) × (x .due ≤ s .clock + ms * s .tempo)
-unfolding messagesAt messagesOf
+unfolding messagesBy messagesOf
 pass-window ds es s room ms x m = pass-by s room ms (between-by ds es s _ (in-granted _ _ m))
 
 -- and a heard note what is due at once.
-pub note-due : (ds : List ℕ) (es : List Entry) (s : Now) (room : List ℕ) (h tempo : ℕ) (x : Sent) → List·Memᴰ x (messagesAt ds es s (note room h tempo)) → x .due ≡ s .clock
-unfolding messagesAt messagesOf
+pub note-due : (ds : List ℕ) (es : List Entry) (s : Now) (room : List ℕ) (h tempo : ℕ) (x : Sent) → List·Memᴰ x (messagesBy ds es s (note room h tempo)) → x .due ≡ s .clock
+unfolding messagesBy messagesOf
 note-due ds es s room h tempo x m = note-by s room h tempo (between-by ds es s _ (in-granted _ _ m))

@@ -1,25 +1,31 @@
--- The replies to a list of calls, from the score and the history alone.
+-- The replies to an opening and to a list of calls after it, from the score and the history alone.
 use Prim.Native.Nat.{ℕ, _+_, _*_}
 use mathlib.Core.Bool.{Bool}
-use mathlib.Core.List.{List, [], _∷_, _++_, map}
+use mathlib.Core.List.{List, [], _∷_, map}
 use lib.ListN.{length, take, drop}
+use Rattle.base.specs.Checks.{Check, fine, refused}
 use Rattle.score.specs.declared.Reply.{Reply}
-use Rattle.score.specs.Replies.{replyOf}
+use Rattle.score.specs.Replies.{replyOf, verdictOf}
 use Rattle.score.specs.LookUp.{labelReply, labelSpan}
-use Rattle.score.specs.Piece.{Piece, decode}
+use Rattle.score.specs.Piece.{decode}
+use Rattle.rules.specs.Terms.{Terms}
 use Rattle.rules.specs.Page.{Entry, entries}
+use Rattle.rules.specs.Parts.{soundingEntries}
+use Rattle.session.specs.declared.Refusal.{Refusal}
+use Rattle.session.specs.Parts.{sounds, soundingBelow}
+use Rattle.sending.specs.Room.{Message, filled}
+use Rattle.opening.specs.declared.OpeningReply.{OpeningReply}
 use Rattle.sequencer.specs.declared.SendingReply.{SendingReply}
 use Rattle.sequencer.specs.declared.ReportReply.{ReportReply}
 use Rattle.sequencer.specs.declared.Sending.the-variants.{Sent as sentSo, Refused as notSent}
-use Rattle.sequencer.specs.declared.Report.the-variants.{Figures}
+use Rattle.sequencer.specs.declared.Report.the-variants.{Given}
 use Rattle.sequencer.specs.Replies.{sendingReply, reportReply}
-use Rattle.sequencer.specs.Sending.{Message, filled}
-use Rattle.sequencer.specs.Calls.{Grant, granted, refused}
 use Rattle.demands.specs.History.{Call, note, pass, report, lookUp, Now, start, verdict, moved, after}
-use Rattle.demands.specs.Messages.{Sent, sounding, sentBetween}
+use Rattle.demands.specs.Messages.{Sent, sentBetween}
 
 -- A call's answer: the reply, and the send room as it comes back; or the label's bytes.
 pub data Answer : Type 0 where
+  opening : OpeningReply → Answer
   sending : SendingReply → (room : List ℕ) → Answer
   reporting : ReportReply → Answer
   looking : Reply → (label : List ℕ) → Answer
@@ -28,8 +34,8 @@ pub data Answer : Type 0 where
 unfoldable pub messageOf : Sent → Message
 messageOf x = record { due = x .due; word = x .part * 65536 + x .message }
 
-unfoldable pub sendingAnswer : Grant → List Sent → (room : List ℕ) → Answer
-sendingAnswer granted l room = sending (sendingReply (sentSo (length l))) (filled (map messageOf l) room)
+unfoldable pub sendingAnswer : Check Refusal → List Sent → (room : List ℕ) → Answer
+sendingAnswer fine l room = sending (sendingReply (sentSo (length l))) (filled (map messageOf l) room)
 sendingAnswer (refused x) l room = sending (sendingReply (notSent x)) room
 
 -- The label's own bytes, which lie in the file.
@@ -44,12 +50,12 @@ messagesOf ds es s report = []
 messagesOf ds es s (lookUp n) = []
 
 -- What it sends, refused or not.
-unfoldable pub ifGranted : Grant → List Sent → List Sent
-ifGranted granted l = l
+unfoldable pub ifGranted : Check Refusal → List Sent → List Sent
+ifGranted fine l = l
 ifGranted (refused x) l = []
 
-unfoldable pub messagesAt : (durations : List ℕ) → List Entry → Now → Call → List Sent
-messagesAt ds es s c = ifGranted (verdict (length ds) s c) (messagesOf ds es s c)
+unfoldable pub messagesBy : (durations : List ℕ) → List Entry → Now → Call → List Sent
+messagesBy ds es s c = ifGranted (verdict (length ds) s c) (messagesOf ds es s c)
 
 -- total messages were sent since the opening.
 unfoldable pub answer : (file durations : List ℕ) → List Entry → (total : ℕ) → Now → Call → Answer
@@ -57,15 +63,24 @@ answer f ds es total s (note room h tempo) =
     sendingAnswer (verdict (length ds) s (note room h tempo)) (messagesOf ds es s (note room h tempo)) room
 answer f ds es total s (pass room ms) = sendingAnswer (verdict (length ds) s (pass room ms)) (messagesOf ds es s (pass room ms)) room
 answer f ds es total s report =
-    reporting (reportReply (Figures (record { clock = s .clock; tempo = s .tempo; last = s .last; total = total })))
-answer f ds es total s (lookUp n) = looking (replyOf (labelReply f n)) (labelBytes f n)
+    reporting (reportReply (Given (record { clock = s .clock; tempo = s .tempo; last = s .last; total = total })))
+answer f ds es total s (lookUp n) = looking (replyOf (verdictOf (labelReply f n))) (labelBytes f n)
 
 -- The answers to a list of calls, one after the other.
 unfoldable pub answers : (file durations : List ℕ) → List Entry → (total : ℕ) → Now → List Call → List Answer
 answers f ds es total s [] = []
 answers f ds es total s (c ∷ cs) =
-    answer f ds es total s c ∷ answers f ds es (total + length (messagesAt ds es s c)) (after (length ds) s c) cs
+    answer f ds es total s c ∷ answers f ds es (total + length (messagesBy ds es s c)) (after (length ds) s c) cs
 
--- A run of a file with a set of sounding parts, from its opening on.
-unfoldable pub runOf : (file : List ℕ) → (sounds : ℕ → Bool) → (tempo : ℕ) → List Call → List Answer
-runOf f S tempo cs = answers f (decode f .durations) (sounding S (entries (decode f .items))) 0 (start tempo) cs
+-- ---- a run of a file, from its opening on these terms
+
+-- The sequences of the sounding parts.
+unfoldable pub soundingIn : (file : List ℕ) → (sounds : ℕ → Bool) → List Entry
+soundingIn f S = soundingEntries S (entries (decode f .items))
+
+unfoldable pub answersOf : (file : List ℕ) → Terms → List Call → List Answer
+answersOf f o cs = answers f (decode f .durations) (soundingIn f (sounds (o .parts))) 0 (start o) cs
+
+-- "replies with the number of sounding parts"
+unfoldable pub runOf : (file : List ℕ) → Terms → List Call → List Answer
+runOf f o cs = opening (record { number = 0; place = 0; parts = soundingBelow (o .parts) 16 }) ∷ answersOf f o cs

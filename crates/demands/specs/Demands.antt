@@ -6,12 +6,15 @@ use mathlib.Core.List.{List, [], _∷_, _++_, List·Memᴰ}
 use lib.Dec.{eqb, ltb}
 use lib.ListN.{length}
 use Rattle.base.specs.Tests.{pick}
-use Rattle.score.specs.Piece.{decode}
-use Rattle.rules.specs.Page.{Entry, entries}
 use Rattle.base.specs.Only.{only}
+use Rattle.score.specs.Piece.{decode}
+use Rattle.rules.specs.Terms.{Terms}
+use Rattle.rules.specs.Page.{Entry, entries}
+use Rattle.session.specs.Parts.{sounds}
+use Rattle.sending.specs.Room.{Message, pairsIn}
 use Rattle.demands.specs.History.{Call, Now, start, after}
-use Rattle.demands.specs.Messages.{Sent, sounding, sentBetween}
-use Rattle.demands.specs.Answers.{Answer, sending, reporting, looking, messagesAt}
+use Rattle.demands.specs.Messages.{Sent, sentBetween}
+use Rattle.demands.specs.Answers.{Answer, opening, sending, reporting, looking, messagesBy, soundingIn}
 
 -- ---- the messages of a run
 
@@ -23,26 +26,27 @@ afterAll n s (c ∷ cs) = afterAll n (after n s c) cs
 -- What each call sends, one after the other.
 unfoldable pub sentBy : (durations : List ℕ) → List Entry → Now → List Call → List (List Sent)
 sentBy ds es s [] = []
-sentBy ds es s (c ∷ cs) = messagesAt ds es s c ∷ sentBy ds es (after (length ds) s c) cs
+sentBy ds es s (c ∷ cs) = messagesBy ds es s c ∷ sentBy ds es (after (length ds) s c) cs
 
--- The sequences of a file's sounding parts.
-unfoldable pub soundingIn : (file : List ℕ) → (sounds : ℕ → Bool) → List Entry
-soundingIn f S = sounding S (entries (decode f .items))
+-- A run of a file, from its opening on these terms: what each call sends.
+unfoldable pub messagesIn : (file : List ℕ) → Terms → List Call → List (List Sent)
+messagesIn f o cs = sentBy (decode f .durations) (soundingIn f (sounds (o .parts))) (start o) cs
 
--- A run of a file with a set of sounding parts, from its opening on: what each call sends, and the moment after all of them.
-unfoldable pub messagesIn : (file : List ℕ) → (sounds : ℕ → Bool) → (tempo : ℕ) → List Call → List (List Sent)
-messagesIn f S tempo cs = sentBy (decode f .durations) (soundingIn f S) (start tempo) cs
+-- The whole piece's: no part is struck out.
+unfoldable pub wholePiece : (file : List ℕ) → Terms → List Call → List (List Sent)
+wholePiece f o cs = sentBy (decode f .durations) (entries (decode f .items)) (start o) cs
 
-unfoldable pub endOf : (file : List ℕ) → (tempo : ℕ) → List Call → Now
-endOf f tempo cs = afterAll (length (decode f .durations)) (start tempo) cs
+-- The moment after all of its calls.
+unfoldable pub endOf : (file : List ℕ) → Terms → List Call → Now
+endOf f o cs = afterAll (length (decode f .durations)) (start o) cs
 
 -- What one more call sends.
-unfoldable pub nextMessages : (file : List ℕ) → (sounds : ℕ → Bool) → (tempo : ℕ) → List Call → Call → List Sent
-nextMessages f S tempo cs c = messagesAt (decode f .durations) (soundingIn f S) (endOf f tempo cs) c
+unfoldable pub nextMessages : (file : List ℕ) → Terms → List Call → Call → List Sent
+nextMessages f o cs c = messagesBy (decode f .durations) (soundingIn f (sounds (o .parts))) (endOf f o cs) c
 
 -- What has come due of the sounding parts from the opening on: the messages whose event was heard and whose due date the clock has reached.
-unfoldable pub comeDue : (file : List ℕ) → (sounds : ℕ → Bool) → (tempo : ℕ) → List Call → List Sent
-comeDue f S tempo cs = sentBetween (decode f .durations) (soundingIn f S) (start tempo) (endOf f tempo cs)
+unfoldable pub comeDue : (file : List ℕ) → Terms → List Call → List Sent
+comeDue f o cs = sentBetween (decode f .durations) (soundingIn f (sounds (o .parts))) (start o) (endOf f o cs)
 
 -- Of all calls together.
 unfoldable pub joined : List (List Sent) → List Sent
@@ -58,10 +62,18 @@ tally t (x ∷ l) = pick (t x) (suc (tally t l)) (tally t l)
 unfoldable pub atPlace : ℕ → Sent → Bool
 atPlace p x = eqb (x .place) p
 
+-- The messages that the send room holds after a call.
+unfoldable pub sentIn : Answer → List Message
+sentIn (opening r) = []
+sentIn (sending r room) = pairsIn (r .count) 0 room
+sentIn (reporting r) = []
+sentIn (looking r label) = []
+
 -- ---- counts
 
 -- The count in a call's reply.
 unfoldable pub countIn : Answer → ℕ
+countIn (opening r) = 0
 countIn (sending r room) = r .count
 countIn (reporting r) = 0
 countIn (looking r label) = 0
@@ -72,16 +84,20 @@ sumOf (n ∷ l) = n + sumOf l
 
 -- ---- parts
 
--- All parts sound.
-unfoldable pub everyPart : ℕ → Bool
-everyPart p = true
+-- The same terms with other part bits.
+abbrev pub withParts : ℕ → Terms → Terms
+withParts bits o = record { parts = bits; tempo = o .tempo }
+
+-- "sixteen part bits": all of them.
+abbrev pub everyPart : ℕ
+everyPart = 65535
 
 -- The parts of either set.
 unfoldable pub either : (S U : ℕ → Bool) → ℕ → Bool
 either S U p = pick (S p) true (U p)
 
 -- The other parts' messages struck out.
-unfoldable pub onlyParts : (ℕ → Bool) → List Sent → List Sent
+abbrev pub onlyParts : (ℕ → Bool) → List Sent → List Sent
 onlyParts S l = only (λ x. S (x .part)) l
 
 -- ---- "by due date and then page place"

@@ -13,11 +13,13 @@ use Rattle.page.specs.declared.Item.{Item}
 use Rattle.base.specs.Tests.{pick, every}
 use Rattle.rules.specs.Rules.{Outcome}
 use Rattle.rules.specs.Page.{Cue}
-use Rattle.evaluators.specs.Fields.{itemIn}
-use Rattle.sequencer.specs.Layout.{memorySize, partsAt, pageAt, clockAt, slotsAt, outcomesAt, wordAt}
-use Rattle.sequencer.specs.Sending.{sounds, slotBy, isOpen, settled}
-use Rattle.demands.proofs.Slots.{Slot, idle, struck, due, sent, Row, settle, settleAll}
-use Rattle.demands.proofs.TieShows.{slotWord, canSound, Shows, page-end, no-slot, one-slot}
+use Rattle.fates.specs.Fields.{itemIn}
+use Rattle.rules.specs.Terms.{Terms}
+use Rattle.session.specs.Layout.{memorySize, partsAt, pageAt, clockAt, slotsAt, outcomesAt, wordAt}
+use Rattle.session.specs.Parts.{sounds}
+use Rattle.sending.specs.Sending.{slotBy, isOpen, settled}
+use Rattle.demands.proofs.Slots.{Slot, idle, struck, due, sent, SlotRow, settle, settleAll}
+use Rattle.demands.proofs.MemoryAndHistory.Shows.{slotWord, canSound, Shows, page-end, no-slot, one-slot}
 
 -- ---- one page place
 
@@ -100,10 +102,10 @@ every-third true false c = refl
 every-third false b c = refl
 
 -- A slot is open where its action can sound and nothing is in it.
-open-is : (m : List ℕ) (p bits : ℕ) (x : Item) → wordAt m partsAt ≡ bits → itemIn (wordAt m (pageAt + p)) ≡ x
-    → isOpen m p ≡ pick (canSound (sounds bits) x) (eqb (wordAt m (slotsAt + p)) 0) false
+open-is : (m : List ℕ) (p : ℕ) (o : Terms) (x : Item) → wordAt m partsAt ≡ o .parts → itemIn (wordAt m (pageAt + p)) ≡ x
+    → isOpen m p ≡ pick (canSound (sounds (o .parts)) x) (eqb (wordAt m (slotsAt + p)) 0) false
 unfolding isOpen canSound
-open-is m p bits x b e = rw (b, e) (every-third _ _ _)
+open-is m p o x b e = rw (b, e) (every-third _ _ _)
 
 settled-word : (clock w : ℕ) (z : Slot) (o : Outcome) → slotBy clock w ≡ slotWord (settle clock idle o)
     → pick (eqb (slotWord z) 0) (slotBy clock w) (slotWord z) ≡ slotWord (settle clock z o)
@@ -113,20 +115,20 @@ settled-word clock w struck o e = refl
 settled-word clock w sent o e = refl
 settled-word clock w (due x) o e = rw (ne-eqb (3 + x) 0 (λ q. omega arith))
 
-module _ (bits clock : ℕ) (m m′ : List ℕ) (parts : wordAt m partsAt ≡ bits) (page : (i : ℕ) → i < clockAt → wordAt m′ i ≡ wordAt m i) where
-  rows-settled : {p : ℕ} {is : List Item} {rs : List Row} {cs : List Cue} → p + length is ≤ 2048
+module _ (o : Terms) (clock : ℕ) (m m′ : List ℕ) (parts : wordAt m partsAt ≡ o .parts) (page : (i : ℕ) → i < clockAt → wordAt m′ i ≡ wordAt m i) where
+  rows-settled : {p : ℕ} {is : List Item} {rs : List SlotRow} {cs : List Cue} → p + length is ≤ 2048
       → ((q : ℕ) → p ≤ q → q < p + length is → wordAt m′ (slotsAt + q) ≡ pick (isOpen m q) (slotBy clock (wordAt m (outcomesAt + q))) (wordAt m (slotsAt + q)))
-      → Shows (sounds bits) m p is rs
-      → Told (sounds bits) clock m p is cs
-      → Shows (sounds bits) m′ p is (settleAll clock rs cs)
+      → Shows (sounds (o .parts)) m p is rs
+      → Told (sounds (o .parts)) clock m p is cs
+      → Shows (sounds (o .parts)) m′ p is (settleAll clock rs cs)
   unfolding settleAll pick
   rows-settled f slots page-end told-end = page-end
   rows-settled {p} f slots (no-slot {x = x} a b c s) (told-over d t) =
-      let shut : isOpen m p ≡ false = open-is m p bits x parts a ∙ rw b in
+      let shut : isOpen m p ≡ false = open-is m p o x parts a ∙ rw b in
       no-slot (ap itemIn (page (pageAt + p) (omega arith)) ∙ a) b (slots p (omega arith) (omega arith) ∙ rw shut c)
       (rows-settled (omega arith) (λ q h g. slots q (omega arith) (omega arith)) s t)
   rows-settled {p} f slots (one-slot {x = x} {r = w} a b c d s) (told-one {c = u} e g t) =
-      let open′ : isOpen m p ≡ eqb (slotWord (w .slot)) 0 = open-is m p bits x parts a ∙ rw (b, d) in
+      let open′ : isOpen m p ≡ eqb (slotWord (w .slot)) 0 = open-is m p o x parts a ∙ rw (b, d) in
       one-slot {r = record { place = w .place; part = w .part; message = w .message; slot = settle clock (w .slot) (u .outcome) }}
       (ap itemIn (page (pageAt + p) (omega arith)) ∙ a) b c
       (slots p (omega arith) (omega arith) ∙ (rw (open′, d) (settled-word clock (wordAt m (outcomesAt + p)) (w .slot) (u .outcome) g)))
@@ -134,10 +136,10 @@ module _ (bits clock : ℕ) (m m′ : List ℕ) (parts : wordAt m partsAt ≡ bi
   rows-settled f slots (no-slot {x = x} a b c s) (told-one d e t) = let z : _≡_ {A = Bool} true false = sym d ∙ b in let y : _≡_ {A = ℕ} 0 1 = cc in absurd (omega arith)
   rows-settled f slots (one-slot {x = x} a b c d s) (told-over e t) = let z : _≡_ {A = Bool} true false = sym b ∙ e in let y : _≡_ {A = ℕ} 0 1 = cc in absurd (omega arith)
 
-pub settled-rows : (bits clock : ℕ) (m : List ℕ) {is : List Item} {rs : List Row} {cs : List Cue} → wordAt m partsAt ≡ bits → memorySize ≤ length m → length is ≤ 2048
-    → Shows (sounds bits) m 0 is rs
-    → Told (sounds bits) clock m 0 is cs
-    → Shows (sounds bits) (settled clock (length is) 0 m) 0 is (settleAll clock rs cs)
-settled-rows bits clock m {is} b t f s d =
-    rows-settled bits clock m _ b (λ i h. settled-before clock (length is) 0 m i (omega arith)) (omega arith)
+pub settled-rows : (o : Terms) (clock : ℕ) (m : List ℕ) {is : List Item} {rs : List SlotRow} {cs : List Cue} → wordAt m partsAt ≡ o .parts → memorySize ≤ length m → length is ≤ 2048
+    → Shows (sounds (o .parts)) m 0 is rs
+    → Told (sounds (o .parts)) clock m 0 is cs
+    → Shows (sounds (o .parts)) (settled clock (length is) 0 m) 0 is (settleAll clock rs cs)
+settled-rows o clock m {is} b t f s d =
+    rows-settled o clock m _ b (λ i h. settled-before clock (length is) 0 m i (omega arith)) (omega arith)
     (λ q h g. settled-slot clock (length is) 0 m q t (omega arith) h g) s d

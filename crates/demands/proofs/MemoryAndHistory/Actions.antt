@@ -11,6 +11,7 @@ use lib.ListN.{length, length-append}
 use lib.Seq.{take-at, drop-at}
 use borrow.Author.Tests.{eqb-true, eqb-false}
 use Rattle.page.specs.declared.Item.{Item}
+use Rattle.base.specs.Only.{only}
 use Rattle.base.specs.Tests.{pick, every}
 use Rattle.score.specs.Contents.{countsOf}
 use Rattle.score.specs.Piece.{decode}
@@ -19,10 +20,10 @@ use Rattle.score.proofs.WalkLaws.{within-action, within-group}
 use Rattle.rules.specs.Score.{end}
 use Rattle.rules.specs.Page.{levels, sequenceOf, Entry, entriesOf, entries}
 use Rattle.rules.specs.Written.{Written, written, actionsOf, actionsOn}
-use Rattle.demands.specs.Messages.{sounding}
-use Rattle.demands.proofs.TieShows.{canSound, actionsFrom}
-use Rattle.demands.proofs.TieNesting.{Nests, no-nest, one-nest, Tops, no-top, one-top, accepted-tops}
-use Rattle.demands.proofs.TieRuns.{Head, head, entries-read}
+use Rattle.rules.specs.Parts.{soundingEntries}
+use Rattle.demands.proofs.MemoryAndHistory.Shows.{canSound, actionsFrom}
+use Rattle.demands.proofs.MemoryAndHistory.Nesting.{Nests, no-nest, one-nest, Tops, no-top, one-top, accepted-tops}
+use Rattle.demands.proofs.MemoryAndHistory.Runs.{Head, head, entries-read}
 
 no-items : (b : List Item) → length b ≡ 0 → b ≡ []
 no-items [] e = refl
@@ -122,12 +123,12 @@ module _ (S : ℕ → Bool) where
             ∙ (ap₂ _++_ (ih₁ (p + 1)) (ih₂ (p + 1 + length b)) ∙ (sym (from-append (p + 1) b l) ∙ sym (from-silent p x (b ++ l) (group-silent x t))))
 
 module _ (S : ℕ → Bool) where
-  sounding-entry : (e : Entry) (es : List Entry) → S (e .part) ≡ true → sounding S (e ∷ es) ≡ e ∷ sounding S es
-  unfolding sounding pick
+  sounding-entry : (e : Entry) (es : List Entry) → S (e .part) ≡ true → soundingEntries S (e ∷ es) ≡ e ∷ soundingEntries S es
+  unfolding only pick
   sounding-entry e es h = rw h
 
-  silent-entry : (e : Entry) (es : List Entry) → S (e .part) ≡ false → sounding S (e ∷ es) ≡ sounding S es
-  unfolding sounding pick
+  silent-entry : (e : Entry) (es : List Entry) → S (e .part) ≡ false → soundingEntries S (e ∷ es) ≡ soundingEntries S es
+  unfolding only pick
   silent-entry e es h = rw h
 
   -- The first sequence, and the table after it.
@@ -138,11 +139,11 @@ module _ (S : ℕ → Bool) where
       rw (e, n) (sym (from-append S p (x ∷ run) rest))
 
   module _ (n m p : ℕ) (x : Item) (is : List Item) (c : Head n x is)
-      (rest : actionsOn (sounding S (entriesOf m (p + 1 + length (c .run)) (c .rest))) ≡ actionsFrom S (p + 1 + length (c .run)) (c .rest)) where
+      (rest : actionsOn (soundingEntries S (entriesOf m (p + 1 + length (c .run)) (c .rest))) ≡ actionsFrom S (p + 1 + length (c .run)) (c .rest)) where
     abbrev entry : Entry
     entry = record { event = x .event; part = x .part; body = sequenceOf (suc (length (c .run))) levels p (x ∷ c .run) }
 
-    head-actions : (v : Bool) → S (x .part) ≡ v → actionsOn (sounding S (entry ∷ entriesOf m (p + 1 + length (c .run)) (c .rest))) ≡ actionsFrom S p (x ∷ is)
+    head-actions : (v : Bool) → S (x .part) ≡ v → actionsOn (soundingEntries S (entry ∷ entriesOf m (p + 1 + length (c .run)) (c .rest))) ≡ actionsFrom S p (x ∷ is)
     unfolding actionsOn
     head-actions true e =
         rw (sounding-entry entry (entriesOf m (p + 1 + length (c .run)) (c .rest)) e)
@@ -154,19 +155,19 @@ module _ (S : ℕ → Bool) where
         ∙ (ap (λ (l : List Written). l ++ actionsFrom S (p + 1 + length (c .run)) (c .rest)) (sym (silent-run S (x .event) (x .part) e p (c .nests)))
         ∙ split-from p x is (c .run) (c .rest) (c .whole)))
 
-  page-actions : (n m p : ℕ) {is : List Item} → Tops n is → length is ≤ m → actionsOn (sounding S (entriesOf m p is)) ≡ actionsFrom S p is
-  unfolding entriesOf sounding actionsOn
+  page-actions : (n m p : ℕ) {is : List Item} → Tops n is → length is ≤ m → actionsOn (soundingEntries S (entriesOf m p is)) ≡ actionsFrom S p is
+  unfolding entriesOf only actionsOn
   page-actions n zero p no-top f = sym (from-none S p)
   page-actions n zero p (one-top h g k r s) f = absurd (omega arith)
   page-actions n (suc m) p no-top f = sym (from-none S p)
   page-actions n (suc m) p (one-top {x = x} {b = b} {l = l} h g k r s) f =
       let c = head h k r s in
       let few : length (c .rest) ≤ m = omega (arith, ap length (c .whole), length-append (c .run) (c .rest)) in
-      ap (λ (es : List Entry). actionsOn (sounding S es)) (entries-read m p x (b ++ l) (c .run) (c .rest) (c .whole) (c .size))
+      ap (λ (es : List Entry). actionsOn (soundingEntries S es)) (entries-read m p x (b ++ l) (c .run) (c .rest) (c .whole) (c .size))
       ∙ head-actions n m p x (b ++ l) c (page-actions n m (p + 1 + length (c .run)) (c .tops) few) (S (x .part)) refl
 
 -- ---- of an accepted file
 
-pub accepted-actions : (f : List ℕ) → Accepted f → (S : ℕ → Bool) → actionsOn (sounding S (entries (decode f .items))) ≡ actionsFrom S 0 (decode f .items)
+pub accepted-actions : (f : List ℕ) → Accepted f → (S : ℕ → Bool) → actionsOn (soundingEntries S (entries (decode f .items))) ≡ actionsFrom S 0 (decode f .items)
 unfolding entries
 accepted-actions f accepted S = page-actions S (countsOf f .events) (length (decode f .items)) 0 (accepted-tops f accepted) (le-refl _)

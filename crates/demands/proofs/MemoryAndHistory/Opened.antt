@@ -7,34 +7,35 @@ use mathlib.Core.List.{List, [], _∷_, map}
 use native.Mathlib.Omega.{arith}
 use lib.ListN.{length, take, drop}
 use lib.Seq.{drop-cons}
-use lib.Count.{ones}
 use borrow.Author.Tests.{le-leb}
 use Rattle.page.specs.declared.Item.{Item}
 use Rattle.base.specs.Tests.{pick, between}
+use Rattle.base.specs.Checks.{fine, need, firstFault, renamed}
 use Rattle.score.specs.Piece.{decode}
 use Rattle.score.specs.File.{Accepted}
+use Rattle.rules.specs.Terms.{Terms}
 use Rattle.rules.specs.Heard.{taken}
 use Rattle.rules.specs.Settled.{nothing-heard}
 use Rattle.rules.specs.Page.{Cue}
 use Rattle.rules.specs.Written.{written, actionsIn}
 use Rattle.rules.proofs.Sound.{each-action-once}
-use Rattle.evaluators.specs.Fields.{itemIn, takenIn}
-use Rattle.evaluators.specs.Tables.{itemsIn}
-use Rattle.sequencer.specs.declared.Opening.the-variants.{Opened}
-use Rattle.sequencer.specs.Layout.{memorySize, mostTempo, pageAt, slotsAt, outcomesAt, wordAt}
-use Rattle.sequencer.specs.Sending.{sounds, messageWord}
-use Rattle.sequencer.specs.Opening.{opening, openingOf, openedMemory}
-use Rattle.sequencer.proofs.ListLaws.{take-drop-take}
-use Rattle.sequencer.proofs.Fresh.{Fresh}
-use Rattle.sequencer.proofs.Opened.{opened-fresh, opened-session}
+use Rattle.fates.specs.Fields.{itemIn, takenIn}
+use Rattle.fates.specs.Places.{itemsIn}
+use Rattle.session.specs.Layout.{memorySize, mostTempo, pageAt, slotsAt, outcomesAt, wordAt}
+use Rattle.session.specs.Parts.{sounds}
+use Rattle.sending.specs.Sending.{messageWord}
+use Rattle.opening.specs.Opening.{openingCheck, opened}
+use Rattle.opening.proofs.ListLaws.{take-drop-take}
+use Rattle.opening.proofs.Fresh.{Fresh}
+use Rattle.opening.proofs.Opened.{opened-fresh, opened-session}
 use Rattle.demands.specs.History.{Now, start, heardEvents}
-use Rattle.demands.specs.Demands.{soundingIn}
-use Rattle.demands.proofs.Slots.{Slot, idle, slotBy, rowsOf, slotsOf, AllIdle, one-row}
+use Rattle.demands.specs.Answers.{soundingIn}
+use Rattle.demands.proofs.Slots.{Slot, idle, slotOn, rowsOf, slotsOf, AllIdle, one-row}
 use Rattle.demands.proofs.Engine.{start-idle}
-use Rattle.demands.proofs.TieShows.{slotWord, canSound, actionsFrom, Shows, page-end, no-slot, one-slot}
-use Rattle.demands.proofs.TieTaken.{Settled}
-use Rattle.demands.proofs.TieHolds.{Holds}
-use Rattle.demands.proofs.TieFair.{Fair, accepted-fair}
+use Rattle.demands.proofs.MemoryAndHistory.Shows.{slotWord, canSound, actionsFrom, Shows, page-end, no-slot, one-slot}
+use Rattle.demands.proofs.MemoryAndHistory.Taken.{EventsSettled}
+use Rattle.demands.proofs.MemoryAndHistory.Holds.{Holds}
+use Rattle.demands.proofs.MemoryAndHistory.Fair.{Fair, accepted-fair}
 
 -- ---- open slots
 
@@ -73,21 +74,21 @@ module _ (S : ℕ → Bool) (m : List ℕ) (s : Now) where
           let b : actionsIn k ≡ actionsFrom S (p + 1) is = cc in
           let part : c .part ≡ x .part = cc in
           let message : c .message ≡ x .last = cc in
-          one-slot item v (message-word (c .part) (c .message) x part message) (z ∙ idle-word (slotBy s (c .outcome)) j) (ih k b i)
+          one-slot item v (message-word (c .part) (c .message) x part message) (z ∙ idle-word (slotOn s (c .outcome)) j) (ih k b i)
       go false v k a i item z ih = no-slot item v z (ih k a i)
 
 -- ---- the opening
 
-module _ (f m : List ℕ) (parts tempo : ℕ) (accepted : Accepted f) (long : memorySize ≤ length m) (sixteen : parts < 65536) (speed : between 1 mostTempo tempo ≡ true) where
-  granted : opening m f parts tempo ≡ Opened (ones parts)
-  unfolding opening openingOf pick
+module _ (f m : List ℕ) (o : Terms) (accepted : Accepted f) (long : memorySize ≤ length m) (sixteen : o .parts < 65536) (speed : between 1 mostTempo (o .tempo) ≡ true) where
+  pub granted : openingCheck m f o ≡ fine
+  unfolding openingCheck firstFault need renamed
   granted = rw (le-leb memorySize (length m) long, accepted .fine, speed)
 
   abbrev new : List ℕ
-  new = openedMemory m f parts tempo
+  new = opened m f o .memory
 
-  fresh : Fresh (decode f) parts tempo m new
-  fresh = opened-fresh m f parts tempo (ones parts) granted
+  fresh : Fresh (decode f) o m new
+  fresh = opened-fresh m f o granted
 
   fair : Fair (decode f .durations) (decode f .items)
   fair = accepted-fair f accepted
@@ -99,7 +100,7 @@ module _ (f m : List ℕ) (parts tempo : ℕ) (accepted : Accepted f) (long : me
       ap (map itemIn) (sym (take-drop-take (length (decode f .items)) pageAt outcomesAt new (omega (arith, fair .items))))
       ∙ (ap (λ (n : ℕ). map itemIn (take n (drop pageAt (take outcomesAt new)))) (sym (fresh .items)) ∙ fresh .page)
 
-  nothing-taken : Settled (length (decode f .durations)) 0 [] new
+  nothing-taken : EventsSettled (length (decode f .durations)) 0 [] new
   unfolding taken takenIn pick
   nothing-taken =
       record {
@@ -108,19 +109,20 @@ module _ (f m : List ℕ) (parts tempo : ℕ) (accepted : Accepted f) (long : me
         words = λ k p q. rw (fresh .taken k (omega (arith, fair .events)));
       }
 
-  nothing-waits : Shows (sounds parts) new 0 (decode f .items) (slotsOf (decode f .durations) (soundingIn f (sounds parts)) (start tempo))
+  nothing-waits : Shows (sounds (o .parts)) new 0 (decode f .items) (slotsOf (decode f .durations) (soundingIn f (sounds (o .parts))) (start o))
   unfolding slotsOf soundingIn
   nothing-waits =
       let few : pageAt + 0 + length (decode f .items) ≤ length new = omega (arith, fair .items, fresh .long) in
-      open-shows (sounds parts) new (start tempo) 0 (decode f .items) _ few page-words (λ q p h. fresh .slots q (omega (arith, fair .items)))
-      (each-action-once _ (soundingIn f (sounds parts)) ∙ fair .actions (sounds parts)) (start-idle (decode f .durations) (soundingIn f (sounds parts)) tempo)
+      open-shows (sounds (o .parts)) new (start o) 0 (decode f .items) _ few page-words (λ q p h. fresh .slots q (omega (arith, fair .items)))
+      (each-action-once _ (soundingIn f (sounds (o .parts))) ∙ fair .actions (sounds (o .parts))) (start-idle (decode f .durations) (soundingIn f (sounds (o .parts))) o)
 
-  pub opened-holds : Holds f parts 0 (start tempo) new
+  pub opened-holds : Holds f o 0 (start o) new
   unfolding start heardEvents
   opened-holds =
       record {
         score = record { long = rw (fresh .long) long; events = fresh .events; items = fresh .items; parts = fresh .parts; starts = fresh .starts; page = fresh .page };
-        session = opened-session m f parts tempo (ones parts) granted sixteen;
+        terms = refl;
+        session = opened-session m f o granted sixteen;
         clock = fresh .clock;
         tempo = fresh .tempo;
         last = fresh .last;

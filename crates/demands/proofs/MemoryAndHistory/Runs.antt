@@ -18,7 +18,7 @@ use Rattle.score.specs.Piece.{decode}
 use Rattle.score.specs.File.{Accepted}
 use Rattle.rules.specs.Page.{levels, sequenceOf, goesOn, runLength, entriesOf, entries}
 use Rattle.rules.proofs.Readings.{Within, no-entries, entry-within}
-use Rattle.demands.proofs.TieNesting.{Nests, no-nest, one-nest, Tops, no-top, one-top, accepted-tops}
+use Rattle.demands.proofs.MemoryAndHistory.Nesting.{Nests, no-nest, one-nest, Tops, no-top, one-top, accepted-tops}
 
 -- ---- the items of a run
 

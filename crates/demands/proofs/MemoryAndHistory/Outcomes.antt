@@ -7,19 +7,21 @@ use mathlib.Core.List.{List, [], _∷_, _++_, append-assoc}
 use native.Mathlib.Omega.{arith}
 use lib.ListN.{length}
 use Rattle.page.specs.declared.Item.{Item}
+use Rattle.base.specs.Only.{only}
 use Rattle.base.specs.Tests.{pick}
 use Rattle.rules.specs.Rules.{Reading, Outcome, played, dropped, undecided, perform}
 use Rattle.rules.specs.Page.{Entry, entries, Cue, cast, cues}
 use Rattle.rules.specs.Written.{written, actionsIn}
-use Rattle.evaluators.specs.Fields.{outcomeWord}
-use Rattle.evaluators.specs.Tables.{Laid, readingIn, itemsIn, performed}
+use Rattle.rules.specs.Parts.{soundingEntries}
+use Rattle.fates.specs.Fields.{outcomeWord}
+use Rattle.fates.specs.Places.{PlacesFit, readingIn, itemsIn}
+use Rattle.evaluators.specs.Performed.{performed}
 use Rattle.evaluators.proofs.PlaceLaws.{performed-at}
-use Rattle.sequencer.specs.Layout.{outcomesAt, wordAt, tablesOf}
-use Rattle.sequencer.specs.Sending.{slotBy}
-use Rattle.demands.specs.Messages.{sounding}
+use Rattle.session.specs.Layout.{outcomesAt, wordAt, placesOf}
+use Rattle.sending.specs.Sending.{slotBy}
 use Rattle.demands.proofs.Slots.{idle, settle}
-use Rattle.demands.proofs.TieShows.{slotWord, canSound, actionsFrom}
-use Rattle.demands.proofs.TieSettled.{Told, told-end, told-over, told-one}
+use Rattle.demands.proofs.MemoryAndHistory.Shows.{slotWord, canSound, actionsFrom}
+use Rattle.demands.proofs.MemoryAndHistory.Settled.{Told, told-end, told-over, told-one}
 
 -- ---- written and read back
 
@@ -38,15 +40,15 @@ pub data Left (m : List ℕ) : List Cue → Type 0 where
   none-left : Left m []
   one-left : {c : Cue} {cs : List Cue} → wordAt m (outcomesAt + c .place) ≡ outcomeWord (c .outcome) → Short (c .outcome) → Left m cs → Left m (c ∷ cs)
 
-module _ (m : List ℕ) (laid : Laid (tablesOf m) (length m)) where
-  left-from : (before cs : List Cue) → cues (readingIn (tablesOf m) m) (entries (itemsIn (tablesOf m) m)) ≡ before ++ cs → AllShort cs
-      → Left (performed (tablesOf m) m) cs
+module _ (m : List ℕ) (laid : PlacesFit (placesOf m) (length m)) where
+  left-from : (before cs : List Cue) → cues (readingIn (placesOf m) m) (entries (itemsIn (placesOf m) m)) ≡ before ++ cs → AllShort cs
+      → Left (performed (placesOf m) m) cs
   left-from before [] e s = none-left
   left-from before (c ∷ cs) e (one-short d s) =
-      one-left (performed-at (tablesOf m) m laid before c cs e) d
+      one-left (performed-at (placesOf m) m laid before c cs e) d
       (left-from (before ++ (c ∷ [])) cs (e ∙ sym (append-assoc before (c ∷ []) cs)) s)
 
-  pub performed-left : (cs : List Cue) → cues (readingIn (tablesOf m) m) (entries (itemsIn (tablesOf m) m)) ≡ cs → AllShort cs → Left (performed (tablesOf m) m) cs
+  pub performed-left : (cs : List Cue) → cues (readingIn (placesOf m) m) (entries (itemsIn (placesOf m) m)) ≡ cs → AllShort cs → Left (performed (placesOf m) m) cs
   performed-left cs e s = left-from [] cs e s
 
 -- ---- of the sounding parts
@@ -64,14 +66,14 @@ module _ {m : List ℕ} where
   left-append none-left k = k
   left-append (one-left {c = c} e d r) k = one-left {c = c} e d (left-append r k)
 
-  pub left-sounding : (S : ℕ → Bool) (R : Reading) (es : List Entry) → Left m (cues R es) → Left m (cues R (sounding S es))
-  unfolding cues sounding pick
+  pub left-sounding : (S : ℕ → Bool) (R : Reading) (es : List Entry) → Left m (cues R es) → Left m (cues R (soundingEntries S es))
+  unfolding cues only pick
   left-sounding S R [] r = none-left
   left-sounding S R (e ∷ es) r =
       go (S (e .part)) (left-first (cast (e .part) (perform R (e .event) (e .body))) (cues R es) r)
       (left-sounding S R es (left-rest (cast (e .part) (perform R (e .event) (e .body))) r))
     where
-      go : (v : Bool) → Left m (cast (e .part) (perform R (e .event) (e .body))) → Left m (cues R (sounding S es)) → Left m (cues R (pick v (e ∷ sounding S es) (sounding S es)))
+      go : (v : Bool) → Left m (cast (e .part) (perform R (e .event) (e .body))) → Left m (cues R (soundingEntries S es)) → Left m (cues R (pick v (e ∷ soundingEntries S es) (soundingEntries S es)))
       go true a b = left-append a b
       go false a b = b
 

@@ -11,14 +11,14 @@ use lib.Seq.{getD-set-same, getD-set-other}
 use borrow.Author.Tests.{leb-true, leb-false, le-leb, lt-leb}
 use Rattle.page.specs.declared.Item.{Item}
 use Rattle.base.specs.Tests.{pick, every}
-use Rattle.evaluators.specs.Fields.{itemIn}
-use Rattle.sequencer.specs.Layout.{memorySize, pageAt, slotsAt, wordAt}
-use Rattle.sequencer.specs.Sending.{isDue, messageAt, dueFrom, firedFrom}
-use Rattle.sequencer.proofs.DueLaws.{due-cons, due-over, fired-cons, fired-over}
+use Rattle.fates.specs.Fields.{itemIn}
+use Rattle.session.specs.Layout.{memorySize, pageAt, slotsAt, wordAt}
+use Rattle.sending.specs.Sending.{isDue, messageAt, dueFrom, firedFrom}
+use Rattle.sending.proofs.DueLaws.{due-cons, due-over, fired-cons, fired-over}
 use Rattle.demands.specs.Messages.{Sent}
 use Rattle.demands.specs.Answers.{messageOf}
-use Rattle.demands.proofs.Slots.{Slot, idle, struck, due, sent, Row, fire, fireAll, fired, collect}
-use Rattle.demands.proofs.TieShows.{slotWord, Shows, page-end, no-slot, one-slot, shows-kept}
+use Rattle.demands.proofs.Slots.{Slot, idle, struck, due, sent, SlotRow, fire, fireAll, fired, collect}
+use Rattle.demands.proofs.MemoryAndHistory.Shows.{slotWord, Shows, page-end, no-slot, one-slot, shows-kept}
 
 -- ---- one slot
 
@@ -46,7 +46,7 @@ unfolding isDue every
 none-due clock = refl
 
 -- What is fired of a row: its message where it is due, and nothing else.
-fired-yes : (clock : ℕ) (w : Row) (z : Slot) (l : List Sent) → ripe clock z ≡ true
+fired-yes : (clock : ℕ) (w : SlotRow) (z : Slot) (l : List Sent) → ripe clock z ≡ true
     → map messageOf (fired clock w z l) ≡ record { due = slotWord z - 3; word = w .part * 65536 + w .message } ∷ map messageOf l
 unfolding ripe fired slotWord messageOf pick
 fired-yes clock w idle l e = let z : _≡_ {A = ℕ} 0 1 = cc in absurd (omega arith)
@@ -54,7 +54,7 @@ fired-yes clock w struck l e = let z : _≡_ {A = ℕ} 0 1 = cc in absurd (omega
 fired-yes clock w sent l e = let z : _≡_ {A = ℕ} 0 1 = cc in absurd (omega arith)
 fired-yes clock w (due x) l e = let d : 3 + x - 3 ≡ x = omega arith in rw (e, d)
 
-fired-no : (clock : ℕ) (w : Row) (z : Slot) (l : List Sent) → ripe clock z ≡ false → fired clock w z l ≡ l
+fired-no : (clock : ℕ) (w : SlotRow) (z : Slot) (l : List Sent) → ripe clock z ≡ false → fired clock w z l ≡ l
 unfolding ripe fired pick
 fired-no clock w idle l e = refl
 fired-no clock w struck l e = refl
@@ -92,18 +92,18 @@ fired-before clock (suc r) (suc n) p m i h =
     go true e a b = rw (fired-cons clock m r n p e) (a ∙ getD-set-other m (slotsAt + p) i 2 0 (λ q. omega arith))
     go false e a b = rw (fired-over clock m r n p e) b
 
-none-collected : (clock : ℕ) (rs : List Row) → length rs ≤ 0 → collect clock rs ≡ []
+none-collected : (clock : ℕ) (rs : List SlotRow) → length rs ≤ 0 → collect clock rs ≡ []
 unfolding collect
 none-collected clock [] h = refl
 none-collected clock (r ∷ rs) h = absurd (omega arith)
 
-none-fired : (clock : ℕ) (rs : List Row) → length rs ≤ 0 → fireAll clock rs ≡ rs
+none-fired : (clock : ℕ) (rs : List SlotRow) → length rs ≤ 0 → fireAll clock rs ≡ rs
 unfolding fireAll
 none-fired clock [] h = refl
 none-fired clock (r ∷ rs) h = absurd (omega arith)
 
 module _ {S : ℕ → Bool} (clock : ℕ) where
-  pub due-rows : {m : List ℕ} (r : ℕ) {p : ℕ} {is : List Item} {rs : List Row} → Shows S m p is rs → length rs ≤ r
+  pub due-rows : {m : List ℕ} (r : ℕ) {p : ℕ} {is : List Item} {rs : List SlotRow} → Shows S m p is rs → length rs ≤ r
       → dueFrom clock r (length is) p m ≡ map messageOf (collect clock rs)
   unfolding dueFrom collect messageAt
   due-rows zero {rs = rs} s l = rw (none-collected clock rs l)
@@ -128,12 +128,12 @@ module _ {S : ℕ → Bool} (clock : ℕ) where
       go false e f g = due-over clock m r (length is) p (told false e) ∙ rw (fired-no clock w (w .slot) (collect clock rs) e) g
 
   module _ (m : List ℕ) (long : memorySize ≤ length m) where
-    shows-set : (p : ℕ) {is : List Item} {rs : List Row} → p + 1 + length is ≤ 2048 → Shows S m (p + 1) is rs → Shows S (set m (slotsAt + p) 2) (p + 1) is rs
+    shows-set : (p : ℕ) {is : List Item} {rs : List SlotRow} → p + 1 + length is ≤ 2048 → Shows S m (p + 1) is rs → Shows S (set m (slotsAt + p) 2) (p + 1) is rs
     shows-set p f s =
         shows-kept (set m (slotsAt + p) 2) (λ i h. getD-set-other m (slotsAt + p) i 2 0 (λ q. omega arith))
         (λ q h g. getD-set-other m (slotsAt + p) (slotsAt + q) 2 0 (λ e. omega arith)) f s
 
-  pub fired-rows : (m : List ℕ) (r : ℕ) {p : ℕ} {is : List Item} {rs : List Row} → memorySize ≤ length m → p + length is ≤ 2048 → Shows S m p is rs → length rs ≤ r
+  pub fired-rows : (m : List ℕ) (r : ℕ) {p : ℕ} {is : List Item} {rs : List SlotRow} → memorySize ≤ length m → p + length is ≤ 2048 → Shows S m p is rs → length rs ≤ r
       → Shows S (firedFrom clock r (length is) p m) p is (fireAll clock rs)
   unfolding firedFrom fireAll
   fired-rows m zero {rs = rs} t f s l = rw (none-fired clock rs l) s

@@ -11,14 +11,15 @@ use lib.ListN.{length, take, drop, take-append-drop}
 use Rattle.page.specs.declared.Item.{Item}
 use Rattle.score.specs.Limits.{longest}
 use Rattle.score.proofs.Ranges.{Ranges, none, more}
+use Rattle.rules.specs.Terms.{Terms}
 use Rattle.rules.specs.Score.{Seq, end}
 use Rattle.rules.specs.Rules.{readingOf, Line}
 use Rattle.rules.specs.Page.{levels, sequenceOf, Entry, runLength, entriesOf, entries, Cue, cast, cues}
 use Rattle.rules.specs.Settled.{Below}
 use Rattle.rules.specs.Written.{delaysOf, WaitsUpTo, no-waits, waits-played, waits-dropped, waits-undecided}
-use Rattle.rules.proofs.Bounds.{score-dated, delays-bounded}
+use Rattle.rules.proofs.Bounds.{score-starts-in-order, delays-bounded}
 use Rattle.rules.proofs.Readings.{Within, no-entries, entry-within}
-use Rattle.demands.proofs.TieOutcomes.{Short, AllShort, none-short, one-short}
+use Rattle.demands.proofs.MemoryAndHistory.Outcomes.{Short, AllShort, none-short, one-short}
 
 -- ---- the delays of a table
 
@@ -89,13 +90,13 @@ waits-short q h (waits-played {d = d} g w) r = let s : d < 34359738368 = omega a
 waits-short q h (waits-dropped w) r = one-short tt (waits-short q h w r)
 waits-short q h (waits-undecided w) r = one-short tt (waits-short q h w r)
 
-module _ (ds D : List ℕ) (heard : Below (suc (length ds)) D) where
-  cues-short : {es : List Entry} → Within (length ds) es → UpTo mostDelay es → AllShort (cues (readingOf ds D) es)
+module _ (o : Terms) (ds D : List ℕ) (heard : Below (suc (length ds)) D) where
+  cues-short : {es : List Entry} → Within (length ds) es → UpTo mostDelay es → AllShort (cues (readingOf o ds D) es)
   unfolding cues
   cues-short no-entries none-up = none-short
   cues-short (entry-within {e = e} a w) (one-up b u) =
-      waits-short (e .part) (omega arith) (delays-bounded (readingOf ds D) (length ds) (score-dated ds D heard) (e .event) (e .body) (a .1)) (cues-short w u)
+      waits-short (e .part) (omega arith) (delays-bounded (readingOf o ds D) (length ds) (score-starts-in-order o ds D heard) (e .event) (e .body) (a .1)) (cues-short w u)
 
-  pub page-short : {is : List Item} → Ranges is → length is ≤ 2048 → Within (length ds) (entries is) → AllShort (cues (readingOf ds D) (entries is))
+  pub page-short : {is : List Item} → Ranges is → length is ≤ 2048 → Within (length ds) (entries is) → AllShort (cues (readingOf o ds D) (entries is))
   unfolding entries
   page-short {is} r f w = cues-short w (entries-up-to mostDelay (length is) 0 is (omega (arith, delays-few r)))

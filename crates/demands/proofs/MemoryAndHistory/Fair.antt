@@ -11,15 +11,15 @@ use Rattle.score.specs.Piece.{decode}
 use Rattle.score.specs.File.{Accepted}
 use Rattle.score.proofs.Accepted.{file-sized, file-items}
 use Rattle.score.proofs.Ranges.{Ranges, table-ranges}
-use Rattle.score.proofs.Tables.{events-decoded}
+use Rattle.score.proofs.Decoded.{events-decoded}
 use Rattle.rules.specs.Page.{entries}
 use Rattle.rules.specs.Written.{actionsOn}
+use Rattle.rules.specs.Parts.{soundingEntries}
 use Rattle.rules.proofs.Readings.{Within}
-use Rattle.sequencer.proofs.Fitting.{accepted-fits}
-use Rattle.demands.specs.Messages.{sounding}
-use Rattle.demands.proofs.TieShows.{actionsFrom}
-use Rattle.demands.proofs.TieRuns.{accepted-within}
-use Rattle.demands.proofs.TieActions.{accepted-actions}
+use Rattle.opening.proofs.Fitting.{accepted-fits}
+use Rattle.demands.proofs.MemoryAndHistory.Shows.{actionsFrom}
+use Rattle.demands.proofs.MemoryAndHistory.Runs.{accepted-within}
+use Rattle.demands.proofs.MemoryAndHistory.Actions.{accepted-actions}
 
 pub record Fair (ds : List ℕ) (is : List Item) : Type 0 where
   pub some : 1 ≤ length ds
@@ -27,7 +27,7 @@ pub record Fair (ds : List ℕ) (is : List Item) : Type 0 where
   pub items : length is ≤ 2048
   pub ranges : Ranges is
   pub within : Within (length ds) (entries is)
-  pub actions : (S : ℕ → Bool) → actionsOn (sounding S (entries is)) ≡ actionsFrom S 0 is
+  pub actions : (S : ℕ → Bool) → actionsOn (soundingEntries S (entries is)) ≡ actionsFrom S 0 is
 
 pub accepted-fair : (f : List ℕ) → Accepted f → Fair (decode f .durations) (decode f .items)
 accepted-fair f a =

@@ -10,10 +10,10 @@ use lib.ListN.{length}
 use Rattle.page.specs.declared.Item.{Item}
 use Rattle.base.specs.Tests.{pick, every}
 use Rattle.rules.specs.Written.{Written, written}
-use Rattle.evaluators.specs.Fields.{itemIn}
-use Rattle.sequencer.specs.Layout.{pageAt, clockAt, slotsAt, wordAt}
-use Rattle.sequencer.specs.Sending.{messageWord}
-use Rattle.demands.proofs.Slots.{Slot, idle, struck, due, sent, Row}
+use Rattle.fates.specs.Fields.{itemIn}
+use Rattle.session.specs.Layout.{pageAt, clockAt, slotsAt, wordAt}
+use Rattle.sending.specs.Sending.{messageWord}
+use Rattle.demands.proofs.Slots.{Slot, idle, struck, due, sent, SlotRow}
 
 -- "0 not decided, 1 dropped, 2 sent, 3 and the due date waiting"
 unfoldable pub slotWord : Slot → ℕ
@@ -32,19 +32,19 @@ actionsFrom S p [] = []
 actionsFrom S p (x ∷ is) = pick (canSound S x) (written p (x .part) (x .last) ∷ actionsFrom S (p + 1) is) (actionsFrom S (p + 1) is)
 
 -- The page places from p on, where these items stand, show the rows of those that can sound.
-pub data Shows (S : ℕ → Bool) (m : List ℕ) : ℕ → List Item → List Row → Type 0 where
+pub data Shows (S : ℕ → Bool) (m : List ℕ) : ℕ → List Item → List SlotRow → Type 0 where
   page-end : {p : ℕ} → Shows S m p [] []
-  no-slot : {p : ℕ} {x : Item} {is : List Item} {rs : List Row} → itemIn (wordAt m (pageAt + p)) ≡ x → canSound S x ≡ false → wordAt m (slotsAt + p) ≡ 0
+  no-slot : {p : ℕ} {x : Item} {is : List Item} {rs : List SlotRow} → itemIn (wordAt m (pageAt + p)) ≡ x → canSound S x ≡ false → wordAt m (slotsAt + p) ≡ 0
       → Shows S m (p + 1) is rs
       → Shows S m p (x ∷ is) rs
-  one-slot : {p : ℕ} {x : Item} {is : List Item} {r : Row} {rs : List Row} → itemIn (wordAt m (pageAt + p)) ≡ x → canSound S x ≡ true
+  one-slot : {p : ℕ} {x : Item} {is : List Item} {r : SlotRow} {rs : List SlotRow} → itemIn (wordAt m (pageAt + p)) ≡ x → canSound S x ≡ true
       → r .part * 65536 + r .message ≡ messageWord x
       → wordAt m (slotsAt + p) ≡ slotWord (r .slot)
       → Shows S m (p + 1) is rs
       → Shows S m p (x ∷ is) (r ∷ rs)
 
 module _ {S : ℕ → Bool} {m : List ℕ} (m′ : List ℕ) (page : (i : ℕ) → i < clockAt → wordAt m′ i ≡ wordAt m i) where
-  pub shows-kept : {p : ℕ} {is : List Item} {rs : List Row} → ((q : ℕ) → p ≤ q → q < 2048 → wordAt m′ (slotsAt + q) ≡ wordAt m (slotsAt + q))
+  pub shows-kept : {p : ℕ} {is : List Item} {rs : List SlotRow} → ((q : ℕ) → p ≤ q → q < 2048 → wordAt m′ (slotsAt + q) ≡ wordAt m (slotsAt + q))
       → p + length is ≤ 2048
       → Shows S m p is rs
       → Shows S m′ p is rs

@@ -16,8 +16,8 @@ use Rattle.rules.specs.declared.Taken.the-variants.{Heard as heard, Missed as m
 use Rattle.rules.specs.Heard.{taken}
 use Rattle.rules.specs.Settled.{Below, nothing-heard, heard-before}
 use Rattle.rules.proofs.HeardLaws.{unsettled-above, above-unsettled, below-up, below-one-more, Turns, same, now, passed, turns}
-use Rattle.evaluators.specs.Fields.{eventNumbers, takenIn}
-use Rattle.sequencer.specs.Layout.{memorySize, takenAt, wordAt}
+use Rattle.fates.specs.Fields.{eventNumbers, takenIn}
+use Rattle.session.specs.Layout.{memorySize, takenAt, wordAt}
 use Rattle.sequencer.specs.Calls.{tookNote}
 
 -- ---- the words
@@ -75,7 +75,7 @@ note-word h j p q l =
 -- ---- the two together
 
 -- The events up to the last one heard are settled, and the words say of events 1 to n what has become of them.
-pub record Settled (n last : ℕ) (D m : List ℕ) : Type 0 where
+pub record EventsSettled (n last : ℕ) (D m : List ℕ) : Type 0 where
   pub below : Below (suc last) D
   pub before : (k : ℕ) → 1 ≤ k → k ≤ last → taken D k ≡ unsettled → ⊥
   pub words : (k : ℕ) → 1 ≤ k → k ≤ n → takenIn k (wordAt m (takenAt + k)) ≡ taken D k
@@ -84,7 +84,7 @@ below-last : (D : List ℕ) (h k : ℕ) → Below k (D ++ (h ∷ [])) → h < k
 below-last [] h k (heard-before l b) = l
 below-last (d ∷ D) h k (heard-before l b) = below-last D h k b
 
-module _ (n last h : ℕ) (D m : List ℕ) (s : Settled n last D m) (next : last < h) (fits : h ≤ n) (few : n ≤ 256) (long : memorySize ≤ length m) where
+module _ (n last h : ℕ) (D m : List ℕ) (s : EventsSettled n last D m) (next : last < h) (fits : h ≤ n) (few : n ≤ 256) (long : memorySize ≤ length m) where
   note-words : (k : ℕ) → 1 ≤ k → k ≤ n → takenIn k (wordAt (tookNote h (h - last) (last + 1) m) (takenAt + k)) ≡ taken (D ++ (h ∷ [])) k
   note-words k p q = go (leb k last) (leb k h) refl refl
     where
@@ -104,7 +104,7 @@ module _ (n last h : ℕ) (D m : List ℕ) (s : Settled n last D m) (next : last
           let new : taken (D ++ (h ∷ [])) k ≡ unsettled = above-unsettled k (below-one-more h k g (below-up (suc last) h next (s .below))) in
           ap (takenIn k) (took-after h (h - last) (last + 1) m (takenAt + k) (omega arith)) ∙ (s .words k p q ∙ (old ∙ sym new))
 
-  pub note-settled : Settled n h (D ++ (h ∷ [])) (tookNote h (h - last) (last + 1) m)
+  pub note-settled : EventsSettled n h (D ++ (h ∷ [])) (tookNote h (h - last) (last + 1) m)
   note-settled =
       record {
         below = below-one-more h (suc h) (le-refl (suc h)) (below-up (suc last) h next (s .below));

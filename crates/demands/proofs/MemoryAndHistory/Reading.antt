@@ -16,38 +16,39 @@ use Rattle.rules.specs.Settled.{Below}
 use Rattle.rules.proofs.Dates.{lastBy-some, lastBy-fits}
 use Rattle.rules.proofs.HeardLaws.{below-up, next-after, next-below}
 use Rattle.rules.proofs.Readings.{Among, Agree, Within, cues-agree}
-use Rattle.evaluators.specs.Fields.{takenIn}
-use Rattle.evaluators.specs.Tables.{takenAt as becameAt, lastIn, readingIn, itemsIn}
-use Rattle.evaluators.proofs.LastLaws.{last-in}
-use Rattle.sequencer.specs.Layout.{takenAt, outcomesAt, tablesOf}
-use Rattle.demands.proofs.TieTaken.{Settled}
-use Rattle.demands.proofs.TieHolds.{Score}
+use Rattle.fates.specs.Fields.{takenIn}
+use Rattle.fates.specs.Places.{becameIn, lastIn, readingIn, itemsIn}
+use Rattle.fates.proofs.LastLaws.{last-in}
+use Rattle.rules.specs.Terms.{Terms}
+use Rattle.session.specs.Layout.{takenAt, outcomesAt, placesOf}
+use Rattle.demands.proofs.MemoryAndHistory.Taken.{EventsSettled}
+use Rattle.demands.proofs.MemoryAndHistory.Holds.{Score}
 
-module _ {ds : List ℕ} {is : List Item} {bits last : ℕ} {D m : List ℕ} (some : 1 ≤ length ds) (events : length ds ≤ 256) (score : Score ds is bits m)
-    (settled : Settled (length ds) last D m) (fits : last ≤ length ds) where
+module _ {ds : List ℕ} {is : List Item} {o : Terms} {last : ℕ} {D m : List ℕ} (some : 1 ≤ length ds) (events : length ds ≤ 256) (score : Score ds is o m)
+    (settled : EventsSettled (length ds) last D m) (fits : last ≤ length ds) where
   heard-fit : Below (suc (length ds)) D
   heard-fit = below-up (suc last) (suc (length ds)) (omega arith) (settled .below)
 
-  last-agrees : (t : ℕ) → lastIn (tablesOf m) m t ≡ lastBy ds t
-  last-agrees t = last-in (tablesOf m) m ds t (sym (score .events)) (omega (arith, score .events)) (omega (arith, score .events)) (score .starts)
+  last-agrees : (t : ℕ) → lastIn (placesOf m) m t ≡ lastBy ds t
+  last-agrees t = last-in (placesOf m) m ds t (sym (score .events)) (omega (arith, score .events)) (omega (arith, score .events)) (score .starts)
 
-  became-agrees : (k : ℕ) → Among (length ds) k → becameAt (tablesOf m) m k ≡ taken D k
-  unfolding becameAt
+  became-agrees : (k : ℕ) → Among (length ds) k → becameIn (placesOf m) m k ≡ taken D k
+  unfolding becameIn
   became-agrees k p = ap (takenIn k) (getD-take outcomesAt m (takenAt + k) 0 (omega arith)) ∙ settled .words k (p .0) (p .1)
 
-  last-among : (t : ℕ) → Among (length ds) (lastIn (tablesOf m) m t)
+  last-among : (t : ℕ) → Among (length ds) (lastIn (placesOf m) m t)
   last-among t = rw (last-agrees t) (lastBy-some ds t some, lastBy-fits ds t)
 
-  next-among : (k j : ℕ) → Among (length ds) k → becameAt (tablesOf m) m k ≡ missed j → Among (length ds) j
+  next-among : (k j : ℕ) → Among (length ds) k → becameIn (placesOf m) m k ≡ missed j → Among (length ds) j
   next-among k j p e =
       let q : taken D k ≡ missed j = sym (became-agrees k p) ∙ e in
       let a : k < j = next-after D k j q in
       let b : j < suc (length ds) = next-below (suc (length ds)) k j heard-fit q in
       (omega arith, omega arith)
 
-  agrees : Agree (length ds) (readingIn (tablesOf m) m) (readingOf ds D)
+  agrees : Agree (length ds) (readingIn (placesOf m) m) (readingOf o ds D)
   unfolding readingIn readingOf
   agrees = record { start = λ k p. score .starts k (p .0) (p .1); lastBefore = last-agrees; became = became-agrees; fits = last-among; next = next-among }
 
-  pub session-cues : Within (length ds) (entries is) → cues (readingIn (tablesOf m) m) (entries (itemsIn (tablesOf m) m)) ≡ cues (readingOf ds D) (entries is)
-  session-cues w = rw (score .page) (cues-agree (length ds) (readingIn (tablesOf m) m) (readingOf ds D) agrees w)
+  pub session-cues : Within (length ds) (entries is) → cues (readingIn (placesOf m) m) (entries (itemsIn (placesOf m) m)) ≡ cues (readingOf o ds D) (entries is)
+  session-cues w = rw (score .page) (cues-agree (length ds) (readingIn (placesOf m) m) (readingOf o ds D) agrees w)
