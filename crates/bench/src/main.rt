@@ -1,6 +1,8 @@
 // Calls on the largest score, named by the first argument: a run of one, less a run of what it starts with, has the call's own instructions.
 use score::Reply;
 use sequencer::Sending;
+use session::layout::MEMORY_SIZE;
+use session::layout::ROOM_SIZE;
 
 const OUT: i32 = 1;
 
@@ -26,7 +28,7 @@ fn print_sent(s: Sending) {
 }
 
 fn print_open(file: &[u8], mem: &mut [u64]) {
-    let r = sequencer::opening_reply(sequencer::open_session(mem, file, ALL, FAST));
+    let r = opening::opening_reply(opening::open_session(mem, file, ALL, FAST));
     print_figures(r.number as u64, r.parts as u64);
 }
 
@@ -52,7 +54,7 @@ fn run_file(word: &[u8], file: &[u8]) {
 fn run_session(word: &[u8], mem: &mut [u64], room: &mut [u64]) {
     if check::same(word, b"report") {
         let r = sequencer::report_reply(sequencer::read_report(mem));
-        let s = r.standing;
+        let s = r.figures;
         print_figures(s.clock, s.total);
         return;
     }
@@ -107,8 +109,8 @@ fn run_part(word: &[u8], long: usize, file: &[u8], size: usize, mem: &mut [u64],
 fn main() {
     let mut word = [0u8; 16];
     let mut file = [0u8; 65536];
-    let mut mem = [0u64; 8192];
-    let mut room = [0u64; 2048];
+    let mut mem = [0u64; MEMORY_SIZE];
+    let mut room = [0u64; ROOM_SIZE];
     let fd = os::open_read(b"largest.bin");
     let size = io::read_full(fd, &mut file);
     let long = os::arg(1, &mut word);

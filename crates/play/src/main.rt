@@ -4,6 +4,8 @@ ghost use lib.ListN.{length};
 use lines::Command;
 use lines::Fed;
 use sequencer::Sending;
+use session::layout::MEMORY_SIZE;
+use session::layout::ROOM_SIZE;
 
 const INPUT: i32 = 0;
 
@@ -43,7 +45,7 @@ fn print_no(number: u64) {
 // The clock and the total at the end: both 0 without a session, as a refused report has them.
 fn print_end(mem: &[u64]) {
     let r = sequencer::report_reply(sequencer::read_report(mem));
-    let s = r.standing;
+    let s = r.figures;
     let mut out = [0u8; 128];
     let n = lines::end_line(&mut out, s.clock, s.total);
     print(&out, n);
@@ -64,7 +66,7 @@ fn print_sent(file: &[u8], mem: &[u64], room: &[u64], sent: Sending) {
         return;
     }
     let a = sequencer::report_reply(sequencer::read_report(mem));
-    let s = a.standing;
+    let s = a.figures;
     let mut i = 0;
     let mut left = r.count;
     while 0 < left {
@@ -82,12 +84,7 @@ fn print_sent(file: &[u8], mem: &[u64], room: &[u64], sent: Sending) {
 
 // An opening's reply, and whether it was granted.
 fn begin(file: &[u8], mem: &mut [u64], parts: u64, tempo: u64) -> bool {
-    let r = sequencer::opening_reply(sequencer::open_session(
-        mem,
-        file,
-        (parts % 65536) as u16,
-        tempo,
-    ));
+    let r = opening::opening_reply(opening::open_session(mem, file, (parts % 65536) as u16, tempo));
     let mut out = [0u8; 128];
     let n = lines::open_line(&mut out, r.number as u64, r.parts as u64);
     print(&out, n);
@@ -263,8 +260,8 @@ fn run_part(file: &[u8], size: usize, mem: &mut [u64], room: &mut [u64]) {
 
 fn main() {
     let mut file = [0u8; 65536];
-    let mut mem = [0u64; 8192];
-    let mut room = [0u64; 2048];
+    let mut mem = [0u64; MEMORY_SIZE];
+    let mut room = [0u64; ROOM_SIZE];
     let size = read_score(&mut file);
     run_part(&file, size, &mut mem, &mut room);
 }

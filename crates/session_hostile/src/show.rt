@@ -1,78 +1,106 @@
-// The four calls, each a line: the case's name, the call, "->", the reply's number, place and figures, what became of the lent words, and what was sent.
-use crate::words;
-use crate::words::Memory;
+// The four calls, each a line: the call, "->", the reply's number, place and figures, what became of the lent words, and what was sent.
+ghost use Prim.Native.Nat.{_≤_};
+use crate::Memory;
+use crate::Room;
+use crate::least;
+use crate::reading::Numbers;
+use crate::text;
 use sequencer::SendingReply;
-
-const OUT: i32 = 1;
-
-// A session's words, and the most messages that a call sends.
-const SESSION: usize = 8192;
-
-const MOST_SENT: usize = 1024;
-
-fn text(t: &[u8]) {
-    io::write_all(OUT, t);
-}
+use session::layout;
 
 fn number(n: u64) {
-    io::write_all(OUT, b" ");
-    io::print_decimal(OUT, n);
+    text(b" ");
+    io::print_decimal(1, n);
 }
 
-fn call(name: &[u8], verb: &[u8]) {
-    text(name);
-    text(b": ");
-    text(verb);
+// A call, and its numbers: what an opening has besides two says which file it is.
+pub fn head(word: &[u8], n: &Numbers, count: u64) {
+    text(word);
+    if 0 < count {
+        number(n[0]);
+    }
+    if 1 < count {
+        number(n[1]);
+    }
 }
 
-fn reply(n: usize, place: usize) {
+fn reply(n: usize, place: usize, figure: u64) {
     text(b" ->");
     number(n as u64);
     number(place as u64);
+    number(figure);
 }
 
-// Lent words after a call: the same, changed before a place only, or overrun.
-fn change(was: &[u64], is: &[u64], end: usize) {
-    if is.len() <= words::next_change(was, is, 0) {
-        text(b" same");
-        return;
+// Whether a word is not what it was, 0 or 1. One that is to be listed is printed: its place, and what stands there after the call.
+fn change(was: &[u64], is: &[u64], at: usize, listed: bool) -> usize
+    ensures { λ r. ⌜ r ≤ 1 ⌝ }
+{
+    if is.len() <= at {
+        return 0;
     }
-    if is.len() <= words::next_change(was, is, end) {
+    if was.len() <= at {
+        return 1;
+    }
+    if was[at] == is[at] {
+        return 0;
+    }
+    if !listed {
+        return 1;
+    }
+    number(at as u64);
+    text(b"=");
+    io::print_decimal(1, is[at]);
+    1
+}
+
+// How many words from a place on are not what they were.
+fn changes(was: &[u64], is: &[u64], from: usize, listed: bool) -> usize {
+    let mut count: usize = 0;
+    let mut at = from;
+    while at < is.len() {
+        count += change(was, is, at, listed);
+        at += 1;
+    }
+    count
+}
+
+// Words after a call, and how many of them changed: the same, changed before a place only, or overrun.
+fn kept(was: &[u64], is: &[u64], end: usize) -> usize {
+    let count = changes(was, is, 0, false);
+    if count == 0 {
+        text(b" same");
+        return 0;
+    }
+    if changes(was, is, end, false) == 0 {
         text(b" changed");
-        return;
+        return count;
     }
     text(b" overrun");
+    count
 }
 
-// The words that changed, each place with what stands there after the call; of more than twelve, how many.
-fn changed(was: &[u64], is: &[u64]) {
-    let count = words::changes(was, is);
-    if 12 < count {
-        number(count as u64);
-        text(b" words");
-        return;
-    }
-    let mut at = words::next_change(was, is, 0);
-    while at < is.len() {
-        number(at as u64);
-        text(b"=");
-        io::print_decimal(OUT, is[at]);
-        at = words::next_change(was, is, at + 1);
-    }
-}
-
+// The words that changed; of more than twelve, how many.
 fn memory(was: &[u64], is: &[u64]) {
     text(b", memory");
-    change(was, is, SESSION);
-    changed(was, is);
+    let count = kept(was, is, layout::MEMORY_SIZE);
+    if count == 0 {
+        return;
+    }
+    if 12 < count {
+        number(count as u64);
+        return text(b" words");
+    }
+    changes(was, is, 0, true);
 }
 
-// The message at a place of the send room: its due date, and part x 65,536 + message number.
-fn message(room: &[u64], i: usize) {
-    if i < MOST_SENT {
-        if 2 * i + 1 < room.len() {
-            number(room[2 * i]);
-            number(room[2 * i + 1]);
+// One of the messages sent: its due date, and part x 65,536 + message number.
+fn message(room: &[u64], count: usize, i: usize) {
+    if i < count {
+        if i < layout::MOST_SENT as usize {
+            if 2 * i + 1 < room.len() {
+                number(room[2 * i]);
+                number(room[2 * i + 1]);
+            }
         }
     }
 }
@@ -83,85 +111,77 @@ fn sent(room: &[u64], count: usize) {
         return;
     }
     text(b", sent");
+    message(room, count, 0);
     if 4 < count {
-        message(room, 0);
         text(b" ..");
-        message(room, count - 1);
-        return;
+        return message(room, count, count - 1);
     }
-    let mut i: usize = 0;
-    while i < count {
-        message(room, i);
-        i += 1;
-    }
+    message(room, count, 1);
+    message(room, count, 2);
+    message(room, count, 3);
 }
 
 fn sending(r: SendingReply, was: &[u64], mem: &[u64], had: &[u64], room: &[u64]) {
-    reply(r.number, r.place);
-    number(r.count as u64);
+    reply(r.number, r.place, r.count as u64);
     memory(was, mem);
     text(b", room");
-    if r.count <= MOST_SENT {
-        change(had, room, 2 * r.count);
+    if r.count <= layout::MOST_SENT as usize {
+        kept(had, room, 2 * r.count);
         sent(room, r.count);
     }
     text(b"\n");
 }
 
-pub fn hear(name: &[u8], mem: &mut [u64], room: &mut [u64], event: u64, tempo: u64) {
-    let mut was = [0u64; 8200];
-    let mut had = [0u64; 2056];
-    words::copy(mem, &mut was);
-    words::copy(room, &mut had);
-    let r = sequencer::sending_reply(sequencer::hear(mem, room, event, tempo));
-    call(name, b"hear");
-    number(event);
-    number(tempo);
-    sending(r, &was, mem, &had, room);
+pub fn hear(was: &Memory, mem: &mut [u64], had: &Room, room: &mut [u64], n: &Numbers) {
+    let r = sequencer::sending_reply(sequencer::hear(mem, room, n[0], n[1]));
+    sending(r, was, mem, had, room);
 }
 
-pub fn pass(name: &[u8], mem: &mut [u64], room: &mut [u64], ms: u64) {
-    let mut was = [0u64; 8200];
-    let mut had = [0u64; 2056];
-    words::copy(mem, &mut was);
-    words::copy(room, &mut had);
-    let r = sequencer::sending_reply(sequencer::pass(mem, room, ms));
-    call(name, b"pass");
-    number(ms);
-    sending(r, &was, mem, &had, room);
+pub fn pass(was: &Memory, mem: &mut [u64], had: &Room, room: &mut [u64], n: &Numbers) {
+    let r = sequencer::sending_reply(sequencer::pass(mem, room, n[0]));
+    sending(r, was, mem, had, room);
 }
 
-pub fn open(name: &[u8], mem: &mut [u64], file: &[u8], parts: u16, tempo: u64) {
-    let mut was = [0u64; 8200];
-    words::copy(mem, &mut was);
-    let r = sequencer::opening_reply(sequencer::open_session(mem, file, parts, tempo));
-    call(name, b"open");
-    number(parts as u64);
-    number(tempo);
-    reply(r.number, r.place);
-    number(r.parts as u64);
-    memory(&was, mem);
+// P2's file with the byte at a place another.
+fn spoilt(at: u64, byte: u64) -> [u8; 96] {
+    let mut file = crate::p2();
+    let i = least(at, 95);
+    file[i] = least(byte, 255) as u8;
+    file
+}
+
+// On so many bytes of that file.
+pub fn open(was: &Memory, mem: &mut [u64], n: &Numbers) {
+    let file = spoilt(n[3], n[4]);
+    let from = 0;
+    let end = least(n[2], 96);
+    let bits = least(n[0], 65535) as u16;
+    let r = opening::opening_reply(opening::open_session(mem, &file[from..end], bits, n[1]));
+    reply(r.number, r.place, r.parts as u64);
+    memory(was, mem);
     text(b"\n");
 }
 
-pub fn report(name: &[u8], mem: &mut [u64]) {
-    let mut was = [0u64; 8200];
-    words::copy(mem, &mut was);
+pub fn report(was: &Memory, mem: &[u64]) {
     let r = sequencer::report_reply(sequencer::read_report(mem));
-    let s = r.standing;
-    call(name, b"report");
-    reply(r.number, r.place);
-    number(s.clock);
+    let s = r.figures;
+    reply(r.number, r.place, s.clock);
     number(s.tempo);
     number(s.last);
     number(s.total);
-    memory(&was, mem);
+    memory(was, mem);
     text(b"\n");
 }
 
-// Whether the words are those of another memory.
-pub fn alike(name: &[u8], other: &Memory, mem: &Memory) {
-    call(name, b"words");
-    change(other, mem, 0);
+// Whether the words are those of a session just opened.
+pub fn words(mem: &[u64]) {
+    let mut other = [0u64; layout::MEMORY_SIZE + 8];
+    let mut room = [0u64; layout::ROOM_SIZE + 8];
+    crate::opened(&mut other, &mut room);
+    alike(&other, mem);
+}
+
+fn alike(other: &Memory, mem: &[u64]) {
+    kept(other, mem, 0);
     text(b"\n");
 }

@@ -12,29 +12,8 @@ Inv-loop mem₀ room₀ event₀ mem room event = (length mem ≡ length mem₀)
 abbrev μ-loop : tie.MeasureT-loop
 μ-loop mem₀ room₀ event₀ mem room event = 257 - event
 
-loop-holds : tie.Need-loop-holds Inv-loop μ-loop
-loop-holds c = search needs
-
-hear-requires : tie.Need-hear-requires Inv-loop μ-loop
-hear-requires c κs = search needs
-
-print-sent-requires : tie.Need-print-sent-requires Inv-loop μ-loop
-print-sent-requires c κs = search needs
-
-add-event : tie.Need-add-event Inv-loop μ-loop
-add-event c = search needs
-
-loop-less : tie.Need-loop-less Inv-loop μ-loop
-loop-less c = search needs
-
 loop-again : tie.Need-loop-again Inv-loop μ-loop
 loop-again c = search needs
-
-same-length : tie.Need-same-length Inv-loop μ-loop
-same-length c = search needs
-
-same-length-2 : tie.Need-same-length-2 Inv-loop μ-loop
-same-length-2 c = search needs
 
 returns : tie.Need-returns Inv-loop μ-loop
 returns c = search needs
@@ -45,12 +24,12 @@ hear-all-spec =
     (tie.spec
     Inv-loop
     μ-loop
-    loop-holds
-    hear-requires
-    print-sent-requires
-    add-event
-    loop-less
+    (λ c. search needs)
+    (λ c κs. search needs)
+    (λ c κs. search needs)
+    (λ c. search needs)
+    (λ c. search needs)
     loop-again
-    same-length
-    same-length-2
+    (λ c. search needs)
+    (λ c. search needs)
     returns)
