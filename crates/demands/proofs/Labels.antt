@@ -16,9 +16,8 @@ use Rattle.score.specs.Contents.{countsOf}
 use Rattle.score.specs.Messages.{labelAt}
 use Rattle.score.specs.Piece.{decode}
 use Rattle.score.specs.File.{Accepted}
-use Rattle.score.specs.LookUp.{labelReply, labelSpan, granted}
+use Rattle.score.specs.LookUp.{labelReply, labelSpan, labelBytes, granted}
 use Rattle.score.proofs.Decoded.{labels-at, labels-decoded}
-use Rattle.demands.specs.Answers.{labelBytes}
 
 -- The reply: whether there is such a label.
 unfoldable pub found : List (List ℕ) → ℕ → Check Fault

@@ -5,7 +5,7 @@ use Prim.Native.Nat.{ℕ, _+_}
 use mathlib.Core.Bool.{Bool, true, false}
 use mathlib.Core.List.{List, [], _∷_, map}
 use lib.ListN.{length, length-map}
-use Rattle.score.specs.LookUp.{labelReply}
+use Rattle.score.specs.LookUp.{labelReply, labelBytes}
 use Rattle.rules.specs.Rules.{readingOf, Outcome, played, dropped, undecided}
 use Rattle.rules.specs.Page.{Entry, Cue, cues}
 use Rattle.rules.specs.Parts.{placeless}
@@ -15,7 +15,7 @@ use Rattle.session.specs.declared.Refusal.{Refusal}
 use Rattle.base.specs.Checks.{Check, fine, refused}
 use Rattle.demands.specs.History.{Call, note, pass, report, lookUp, Now, heardEvents, verdict, after}
 use Rattle.demands.specs.Messages.{Sent, firstTime, sends, firsts, insert, order, sentBetween}
-use Rattle.demands.specs.Answers.{Answer, messageOf, sendingAnswer, labelBytes, messagesOf, ifGranted, messagesBy, answer, answers}
+use Rattle.demands.specs.Answers.{Answer, messageOf, sendingAnswer, messagesOf, ifGranted, messagesBy, answer, answers}
 use Rattle.demands.proofs.Ordered.{insert-ahead, insert-behind, Place, ahead, behind, place}
 
 -- ---- messages without their page places

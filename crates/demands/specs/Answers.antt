@@ -2,11 +2,11 @@
 use Prim.Native.Nat.{ℕ, _+_, _*_}
 use mathlib.Core.Bool.{Bool}
 use mathlib.Core.List.{List, [], _∷_, map}
-use lib.ListN.{length, take, drop}
+use lib.ListN.{length}
 use Rattle.base.specs.Checks.{Check, fine, refused}
 use Rattle.score.specs.declared.Reply.{Reply}
 use Rattle.score.specs.Replies.{replyOf, verdictOf}
-use Rattle.score.specs.LookUp.{labelReply, labelSpan}
+use Rattle.score.specs.LookUp.{labelReply, labelBytes}
 use Rattle.score.specs.Piece.{decode}
 use Rattle.rules.specs.Terms.{Terms}
 use Rattle.rules.specs.Page.{Entry, entries}
@@ -37,10 +37,6 @@ messageOf x = record { due = x .due; word = x .part * 65536 + x .message }
 unfoldable pub sendingAnswer : Check Refusal → List Sent → (room : List ℕ) → Answer
 sendingAnswer fine l room = sending (sendingReply (sentSo (length l))) (filled (map messageOf l) room)
 sendingAnswer (refused x) l room = sending (sendingReply (notSent x)) room
-
--- The label's own bytes, which lie in the file.
-unfoldable pub labelBytes : (file : List ℕ) → ℕ → List ℕ
-labelBytes f n = take (labelSpan f n .size) (drop (labelSpan f n .start) f)
 
 -- What a call sends where it is granted.
 unfoldable pub messagesOf : (durations : List ℕ) → List Entry → Now → Call → List Sent

@@ -7,7 +7,7 @@ use lib.ListN.{length}
 use Rattle.base.specs.Tests.{between}
 use Rattle.score.specs.Replies.{replyOf, verdictOf}
 use Rattle.score.specs.File.{Accepted}
-use Rattle.score.specs.LookUp.{labelReply}
+use Rattle.score.specs.LookUp.{labelReply, labelBytes}
 use Rattle.rules.specs.Terms.{Terms}
 use Rattle.session.specs.Layout.{memorySize, mostTempo}
 use Rattle.opening.specs.Replies.{openingReply}
@@ -15,7 +15,7 @@ use Rattle.opening.specs.Opening.{opened}
 use Rattle.sequencer.specs.Replies.{sendingReply, reportReply}
 use Rattle.sequencer.specs.Calls.{heardNote, passingTime, reported}
 use Rattle.demands.specs.History.{Call, note, pass, report, lookUp}
-use Rattle.demands.specs.Answers.{Answer, opening, sending, reporting, looking, labelBytes}
+use Rattle.demands.specs.Answers.{Answer, opening, sending, reporting, looking}
 
 -- What an opening is handed that is granted: an accepted file, 8,192 words or more, sixteen part bits and a lawful tempo.
 pub record Openable (file memory : List ℕ) (o : Terms) : Type 0 where

@@ -9,7 +9,7 @@ use borrow.Author.Tests.{le-ltb, lt-ltb, ltb-true}
 use borrow.Author.Needs.{needs}
 use borrow.Rule.Slice.PartAt.{slPart}
 use denote.Ref.{RefT}
-use Rattle.base.specs.Checks.{Check, fine, refused}
+use Rattle.base.specs.Checks.{Check, fine, refused, need, firstFault}
 use Rattle.base.proofs.TestLaws.{between-low, between-high}
 use Rattle.base.proofs.CheckLaws.{first-head, first-rest, first-holds}
 use Rattle.score.specs.declared.Verdict.{Verdict}
@@ -145,25 +145,31 @@ pub ruleset replies = (check-long, reply-none, reply-fine, reply-fault, needs)
 
 -- ---- the span, in the code's terms
 
-pub reply-long : (f : List ℕ) (n : ℕ) (v : Verdict) → v ≡ verdictOf (labelReply f n) → v ≡ Fine → contentsSize ≤ length f
-reply-long f n v e p = file-long f (granted-file f n (verdict-fine (labelReply f n) v e p))
-
-pub granted-told : (f : List ℕ) (c : Counts) (n : ℕ) (v : Verdict) → v ≡ verdictOf (labelReply f n) → v ≡ Fine → c ≡ countsOf f → Granted f c n
-granted-told f c n v e p s =
-    let r = verdict-fine (labelReply f n) v e p in
-    record {
-      contents = record { counts = s; sized = rw s (file-sized f (granted-file f n r)) };
-      reply = r;
-      below = rw s (granted-below f n r);
-      fits = rw s (granted-entry f n r .fits);
-    }
-
 abbrev nowhere : Span
 nowhere = record { start = 0; size = 0 }
 
-pub span-refused : (f : List ℕ) (n : ℕ) (x : Fault) (v : Verdict) → v ≡ verdictOf (labelReply f n) → v ≡ Refused x → nowhere ≡ labelSpan f n
-unfolding labelSpan granted
-span-refused f n x v p q = rw (verdict-refused (labelReply f n) v x p q)
+module _ (f : List ℕ) (c : Counts) (n : ℕ) (a : Accepted f) (s : c ≡ countsOf f) where
+  accepted-reply : n < c .messages → labelReply f n ≡ fine
+  unfolding labelReply firstFault need
+  accepted-reply l = rw (a .fine, lt-ltb n (countsOf f .messages) (rw s at l))
+
+  pub accepted-granted : n < c .messages → Granted f c n
+  accepted-granted l =
+      let r = accepted-reply l in
+      record {
+        contents = record { counts = s; sized = rw s (file-sized f a) };
+        reply = r;
+        below = l;
+        fits = rw s (granted-entry f n r .fits);
+      }
+
+  pub accepted-none : c .messages ≤ n → nowhere ≡ labelSpan f n
+  unfolding labelSpan granted labelReply firstFault need
+  accepted-none l = rw (a .fine, le-ltb n (countsOf f .messages) (rw s at l))
+
+pub span-refused : (f : List ℕ) (n : ℕ) (x : Fault) (v : Verdict) → v ≡ verdictOf (checked f) → v ≡ Refused x → nowhere ≡ labelSpan f n
+unfolding labelSpan granted labelReply firstFault
+span-refused f n x v p q = rw (verdict-refused (checked f) v x p q)
 
 module _ (f : List ℕ) (c : Counts) (n at text start size : ℕ) (g : Granted f c n) (ea : at ≡ messagesAt c) (et : text ≡ textAt c)
     (p : start ≡ u16At f (at + messageSize * n)) (q : size ≡ u16At f (at + messageSize * n + 2)) where
@@ -185,4 +191,4 @@ part-of whole s t γ e =
     let z : s .start + s .size - s .start ≡ s .size = omega arith in
     rw (← e) (record { place = refl; bytes = rw z })
 
-pub ruleset spans = (reply-long, granted-told, span-refused, span-granted, span-fits, part-of, needs)
+pub ruleset spans = (file-long, accepted-told, accepted-granted, accepted-none, span-refused, span-granted, span-fits, part-of, needs)

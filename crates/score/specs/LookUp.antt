@@ -29,6 +29,10 @@ labelSpan f n =
     let at = messagesAt c + messageSize * n in
     granted (labelReply f n) (record { start = textAt c + u16At f at; size = u16At f (at + 2) })
 
+-- The label's own bytes, which lie in the file.
+unfoldable pub labelBytes : (file : List ℕ) → ℕ → List ℕ
+labelBytes f n = take (labelSpan f n .size) (drop (labelSpan f n .start) f)
+
 -- A part of the caller's bytes: where it lies, so that it is no copy, and which bytes it has.
 pub record Part (whole part : RefT (List ℕ)) (s : Span) : Type 0 where
   pub place : part .ptr ≡ (whole .ptr .0, s .start + whole .ptr .1)

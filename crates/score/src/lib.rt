@@ -17,6 +17,7 @@ use items::item_at;
 use limits::CONTENTS_SIZE;
 use limits::EVENT_SIZE;
 use limits::ITEM_SIZE;
+use look_up::accepted_span;
 use look_up::label_span;
 use page::Item;
 use replies::fault_row;
@@ -119,6 +120,17 @@ pub fn label(file: &[u8], n: u64) -> &[u8]
     ensures { λ r. ⌜ Part (file .entry) r (labelSpan (now (file .entry)) n) ⌝ }
 {
     let s = label_span(file, n);
+    let start = s.start;
+    let end = start + s.size;
+    &file[start..end]
+}
+
+// The same part of a file that is known to be accepted, without a check of it.
+pub fn accepted_label(file: &[u8], n: u64) -> &[u8]
+    requires { ⌜ Accepted (now file) ⌝ }
+    ensures { λ r. ⌜ Part (file .entry) r (labelSpan (now (file .entry)) n) ⌝ }
+{
+    let s = accepted_span(file, n);
     let start = s.start;
     let end = start + s.size;
     &file[start..end]

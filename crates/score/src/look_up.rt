@@ -2,15 +2,16 @@
 ghost use mathlib.Core.Path.{_≡_};
 ghost use Prim.Native.Nat.{_+_, _≤_};
 ghost use lib.ListN.{length};
+ghost use Rattle.score.specs.File.{Accepted};
 ghost use Rattle.score.specs.LookUp.{labelSpan};
 ghost use Rattle.score.specs.Inner.{Granted};
 use crate::Verdict;
 use crate::bytes::read16;
+use crate::check_file;
 use crate::contents::Counts;
 use crate::contents::messages_at;
 use crate::contents::read_counts;
 use crate::contents::text_at;
-use crate::label_reply;
 use crate::limits::MESSAGE_SIZE;
 
 // Where a label lies in the file.
@@ -31,13 +32,24 @@ fn read_span(file: &[u8], c: Counts, n: usize) -> Span
     }
 }
 
+// The span of any message of an accepted file: nothing where the file has no such message.
+pub fn accepted_span(file: &[u8], n: u64) -> Span
+    requires { ⌜ Accepted (now file) ⌝ }
+    ensures { λ r. ⌜ (r ≡ labelSpan (now (file .entry)) n) × (r .start + r .size ≤ length (now (file .entry))) ⌝ }
+{
+    let c = read_counts(file);
+    if c.messages as u64 <= n {
+        return Span { start: 0, size: 0 };
+    }
+    read_span(file, c, n as usize)
+}
+
 pub fn label_span(file: &[u8], n: u64) -> Span
     ensures { λ r. ⌜ (r ≡ labelSpan (now (file .entry)) n) × (r .start + r .size ≤ length (now (file .entry))) ⌝ }
 {
-    let v = label_reply(file, n);
+    let v = check_file(file);
     let Verdict::Fine = v else {
         return Span { start: 0, size: 0 };
     };
-    let c = read_counts(file);
-    read_span(file, c, n as usize)
+    accepted_span(file, n)
 }

@@ -1,4 +1,4 @@
--- Nothing for a refused message, else what its entry says.
+-- Nothing for a file that the check refuses, else what the reader of accepted files finds.
 -- Assumes nothing.
 use Rattle.score.proofs.LookUps.{spans}
 use Rattle.score.proofs.look_up.label_span.Statement.{statement}
@@ -6,9 +6,6 @@ use Rattle.score.proofs.look_up.label_span.Tie as tie
 
 returns : tie.Need-returns
 returns c = search spans
-
-returns-2 : tie.Need-returns-2
-returns-2 c = search spans
 
 pub label-span-spec : {M : Type 1} → statement M
 label-span-spec =
@@ -19,5 +16,4 @@ label-span-spec =
     (λ c. search spans)
     returns
     (λ c κs. search spans)
-    (λ c κs. search spans)
-    returns-2)
+    (λ c. search spans))
