@@ -1,4 +1,4 @@
--- A number's digits, place by place: each step of laying them out, and that read as a number they give it back, with no zero in front.
+-- A number's digits, place by place, and that read as a number they give it back, with no zero in front.
 -- Assumes nothing.
 use mathlib.Core.Path.{_≡_, refl, sym}
 use mathlib.Core.Bool.{Bool, true, false}
@@ -9,29 +9,26 @@ use native.Mathlib.Omega.{arith}
 use lib.ListN.{length, getD, length-append, List·getD-append}
 use lib.Dec.{ltb}
 use borrow.Author.Tests.{lt-ltb, le-ltb, ltb-true, ltb-false}
-use borrow.Author.Needs.{needs}
 use Rattle.base.specs.Tests.{pick, every}
 use Rattle.base.proofs.TestLaws.{every-pass, every-end, every-head, every-rest, between-in}
 use Rattle.ascii.specs.Words.{zeroDigit, nineDigit}
 use Rattle.ascii.specs.Numbers.{allDigits, valueFrom, value}
 use Rattle.ascii.specs.Decimals.{mostPlaces, digitsOf, decimal}
-use Rattle.ascii.specs.Laying.{Laid, DigitRoom}
-use Rattle.ascii.proofs.LayLaws.{laid-join}
 
 -- ---- the digits, in the code's own terms
 
-digits-one : (places n : ℕ) → 1 ≤ places → n < 10 → digitsOf places n ≡ (zeroDigit + n % 10) ∷ []
+pub digits-one : (places n : ℕ) → 1 ≤ places → n < 10 → digitsOf places n ≡ (zeroDigit + n % 10) ∷ []
 unfolding digitsOf pick
 digits-one zero n p q = absurd (omega arith)
 digits-one (suc k) n p q = let e : n % 10 ≡ n = omega arith in rw (lt-ltb n 10 q, e)
 
-digits-more : (places n : ℕ) → 1 ≤ places → 10 ≤ n → digitsOf places n ≡ digitsOf (places - 1) (n / 10) ++ ((zeroDigit + n % 10) ∷ [])
+pub digits-more : (places n : ℕ) → 1 ≤ places → 10 ≤ n → digitsOf places n ≡ digitsOf (places - 1) (n / 10) ++ ((zeroDigit + n % 10) ∷ [])
 unfolding digitsOf pick
 digits-more zero n p q = absurd (omega arith)
 digits-more (suc k) n p q = let s : suc k - 1 ≡ k = omega arith in rw (le-ltb n 10 q, s)
 
 -- ten times fewer in one place fewer
-fewer : (places n : ℕ) → 1 ≤ places → n < 10 ^ places → n / 10 < 10 ^ (places - 1)
+pub fewer : (places n : ℕ) → 1 ≤ places → n < 10 ^ places → n / 10 < 10 ^ (places - 1)
 fewer zero n p q = absurd (omega arith)
 fewer (suc k) n p q =
     let s : suc k - 1 ≡ k = omega arith in
@@ -39,29 +36,10 @@ fewer (suc k) n p q =
     rw s (omega arith)
 
 -- ten or more has a second place
-second-place : (places n : ℕ) → 10 ≤ n → n < 10 ^ places → 2 ≤ places
+pub second-place : (places n : ℕ) → 10 ≤ n → n < 10 ^ places → 2 ≤ places
 second-place zero n p q = absurd (omega arith)
 second-place (suc zero) n p q = absurd (omega arith)
 second-place (suc (suc k)) n p q = omega arith
-
--- ---- laying them out
-
-module _ (o : List ℕ) (at places n : ℕ) (asked : DigitRoom o at places n) where
-  pub places-one : (m : List ℕ) (b r : ℕ) → n < 10 → b ≡ zeroDigit + n % 10 → Laid o at (b ∷ []) m r → Laid o at (digitsOf places n) m r
-  places-one m b r p e l = rw (digits-one places n (asked .some) p, ← e) l
-
-  module _ (p : 10 ≤ n) where
-    pub places-rest : DigitRoom o at (places - 1) (n / 10)
-    places-rest =
-        let t : 2 ≤ places = second-place places n p (asked .enough) in
-        let f : places ≤ mostPlaces = asked .most in
-        let g : at + places ≤ length o = asked .room in
-        record { some = omega arith; most = omega arith; enough = fewer places n (asked .some) (asked .enough); room = omega arith }
-
-    pub places-more : (m k : List ℕ) (b s r : ℕ) → Laid o at (digitsOf (places - 1) (n / 10)) m s → b ≡ zeroDigit + n % 10 → Laid m s (b ∷ []) k r → Laid o at (digitsOf places n) k r
-    places-more m k b s r h e l = rw (digits-more places n (asked .some) p, ← e) (laid-join o m k _ _ at s r h l)
-
-pub ruleset placing = (places-one, places-rest, places-more, needs)
 
 -- ---- read as a number
 

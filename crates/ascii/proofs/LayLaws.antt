@@ -6,7 +6,7 @@ use Prim.Native.Nat.{ℕ, _+_, _-_, _<_, _≤_}
 use native.Mathlib.Numerals.{add-one}
 use native.Mathlib.Omega.{arith}
 use lib.ListN.{length, take, drop, getD, set, length-append, length-set}
-use lib.Seq.{take-suc, take-length, take-suc-set, drop-set-lt, drop-drop}
+use lib.Seq.{take-suc, take-add, take-length, take-set-le, take-suc-set, drop-cons, drop-set-lt, drop-drop, getD-set-same}
 use borrow.Author.Needs.{needs}
 use Rattle.ascii.specs.Laying.{Laid}
 
@@ -39,6 +39,23 @@ laid-byte o a b p =
       stop = refl;
       within = rw (length-set o a b) p;
       size = length-set o a b;
+    }
+
+-- the same, where the last byte was put first
+pub laid-before : (o m xs : List ℕ) (a b v : ℕ) → b + 1 ≤ length o → Laid (set o b v) a xs m b → Laid o a (xs ++ (v ∷ [])) m (b + 1)
+laid-before o m xs a b v p laid =
+    let s : b ≡ a + length xs = laid .stop in
+    let z : length m ≡ length o = laid .size ∙ length-set o b v in
+    let i : b < length o = omega arith in
+    let l : b < length (set o b v) = rw (length-set o b v) i in
+    let f : take a (set o b v) ≡ take a o = take-set-le a o b v (omega arith) in
+    let g : take 1 (drop b m) ≡ v ∷ [] = rw (laid .others, drop-cons (set o b v) b 0 l, getD-set-same o b v 0) in
+    record {
+      front = rw (take-add b 1 m, g, laid .front, f) (append-assoc (take a o) xs (v ∷ []));
+      others = drop-further m (set o b v) b (b + 1) (laid .others) (omega arith) ∙ drop-set-lt (b + 1) o b v (omega arith);
+      stop = omega (arith, length-append xs (v ∷ []));
+      within = omega arith;
+      size = z;
     }
 
 -- ---- byte by byte

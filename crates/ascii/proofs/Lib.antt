@@ -3,4 +3,5 @@ pub mod WordSteps
 pub mod NumberSteps
 pub mod LayLaws
 pub mod DecimalLaws
+pub mod DigitSteps
 pub mod OneOutcome

@@ -1,9 +1,8 @@
 -- Bytes laid one behind the other in lent bytes.
-use Prim.Native.Nat.{ℕ, _+_, _≤_, _<_, _^_}
+use Prim.Native.Nat.{ℕ, _+_, _≤_}
 use mathlib.Core.Path.{_≡_}
 use mathlib.Core.List.{List, _++_}
 use lib.ListN.{length, take, drop}
-use Rattle.ascii.specs.Decimals.{mostPlaces}
 
 -- The bytes stand behind the first at, up to r, and the others stay.
 pub record Laid (out : List ℕ) (at : ℕ) (bytes new : List ℕ) (r : ℕ) : Type 0 where
@@ -12,10 +11,3 @@ pub record Laid (out : List ℕ) (at : ℕ) (bytes new : List ℕ) (r : ℕ) : T
   pub stop : r ≡ at + length bytes
   pub within : r ≤ length new
   pub size : length new ≡ length out
-
--- Room behind the first at for a number of so many places.
-pub record DigitRoom (out : List ℕ) (at places n : ℕ) : Type 0 where
-  pub some : 1 ≤ places
-  pub most : places ≤ mostPlaces
-  pub enough : n < 10 ^ places
-  pub room : at + places ≤ length out

@@ -1,13 +1,11 @@
 // Bytes and numbers laid in lent bytes, one behind the other. Each function answers where the next begins.
 ghost use mathlib.Core.Path.{_≡_};
 ghost use mathlib.Core.List.{[], _∷_};
-ghost use Prim.Native.Nat.{_+_, _%_, _≤_};
+ghost use Prim.Native.Nat.{_+_, _%_, _≤_, _<_};
 ghost use lib.ListN.{length};
 ghost use Rattle.ascii.specs.Words.{zeroDigit};
 ghost use Rattle.ascii.specs.Decimals.{mostPlaces, digitsOf, decimal};
-ghost use Rattle.ascii.specs.Laying.{Laid, DigitRoom};
-
-const MOST_PLACES: usize = 20;
+ghost use Rattle.ascii.specs.Laying.{Laid};
 
 // Puts `src` behind the first `at` bytes of `out`, which stay.
 pub fn put_bytes(out: &mut [u8], at: usize, src: &[u8]) -> usize
@@ -38,22 +36,69 @@ fn digit(n: u64) -> u8
     b'0' + (n % 10) as u8
 }
 
-// The number's digits, of which there are `places` at most: those of a tenth of it, and the last.
-fn put_digits(out: &mut [u8], at: usize, places: usize, n: u64) -> usize
-    requires { ⌜ DigitRoom (now out) at places n ⌝ }
-    ensures { λ r. ⌜ Laid (now (out .entry)) at (digitsOf places n) (now (out .exit)) r × (r ≤ at + places) ⌝ }
+// How many digits a number of at most four has.
+fn few_places(n: u64) -> usize
+    requires { ⌜ n < 10000 ⌝ }
+    ensures { λ r. ⌜ (r ≡ length (digitsOf 4 n)) × (r ≤ 4) ⌝ }
 {
     if n < 10 {
-        return put_byte(out, at, digit(n));
+        return 1;
     }
-    let next = put_digits(out, at, places - 1, n / 10);
-    put_byte(out, next, digit(n))
+    if n < 100 {
+        return 2;
+    }
+    if n < 1000 {
+        return 3;
+    }
+    4
 }
 
-// The number's digits: a u64 has 20 at most.
+// How many digits the number has: a u64 has 20 at most.
+fn places(n: u64) -> usize
+    ensures { λ r. ⌜ (r ≡ length (decimal n)) × (r ≤ mostPlaces) ⌝ }
+{
+    if n < 10000 {
+        return few_places(n);
+    }
+    if n < 100000000 {
+        return 4 + few_places(n / 10000);
+    }
+    if n < 1000000000000 {
+        return 8 + few_places(n / 100000000);
+    }
+    if n < 10000000000000000 {
+        return 12 + few_places(n / 1000000000000);
+    }
+    16 + few_places(n / 10000000000000000)
+}
+
+// The number's digits, of which there are so many, from the last to the first, two at a time.
+fn put_places(out: &mut [u8], at: usize, places: usize, n: u64) -> usize
+    requires { ⌜ (places ≡ length (decimal n)) × (at + places ≤ length (now out)) ⌝ }
+    ensures { λ r. ⌜ Laid (now (out .entry)) at (decimal n) (now (out .exit)) r ⌝ }
+{
+    let mut left = places;
+    let mut rest = n;
+    while 2 <= left {
+        let two = rest % 100;
+        let tens = digit(two / 10);
+        let ones = digit(two);
+        rest /= 100;
+        left -= 2;
+        out[at + left] = tens;
+        out[at + left + 1] = ones;
+    }
+    if left == 1 {
+        out[at] = digit(rest);
+        return at + places;
+    }
+    at + places
+}
+
+// The number's digits.
 pub fn put_number(out: &mut [u8], at: usize, n: u64) -> usize
     requires { ⌜ at + mostPlaces ≤ length (now out) ⌝ }
     ensures { λ r. ⌜ Laid (now (out .entry)) at (decimal n) (now (out .exit)) r × (r ≤ at + mostPlaces) ⌝ }
 {
-    put_digits(out, at, MOST_PLACES, n)
+    put_places(out, at, places(n), n)
 }

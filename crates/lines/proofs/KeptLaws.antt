@@ -66,7 +66,7 @@ command-of-kept l = go (leb keptBytes (length l)) refl where
 
 -- ---- a line in pieces
 
-take-again : (n : ℕ) (xs ys : List ℕ) → take n (take n xs ++ ys) ≡ take n (xs ++ ys)
+pub take-again : (n : ℕ) (xs ys : List ℕ) → take n (take n xs ++ ys) ≡ take n (xs ++ ys)
 take-again zero xs ys = refl
 take-again (suc n) [] ys = refl
 take-again (suc n) (x ∷ xs) ys = ap (λ (l : List ℕ). x ∷ l) (take-again n xs ys)

@@ -2,6 +2,7 @@
 pub mod CommandSteps
 pub mod KeptLaws
 pub mod PrintLaws
+pub mod LineLengths
 pub mod FeedSteps
 pub mod OneOutcome
 pub mod Examples

@@ -24,8 +24,8 @@ lay-figure o m n x a b r p q = laid-join o m n _ _ a b r p q
 
 pub ruleset printed = (lay-word-line, lay-words-line, lay-figure, needs)
 
-module _ {o m₁ m₂ m₃ m₄ n label : List ℕ} {a b c d r : ℕ} (clock due part : ℕ) where
-  pub lay-message : Laid o 0 (figure clock) m₁ a → Laid m₁ a (figure due) m₂ b → Laid m₂ b (figure part) m₃ c → Laid m₃ c label m₄ d → Laid m₄ d (newline ∷ []) n r
-      → Laid o 0 (messageLine clock due part label) n r
+module _ {o m₁ m₂ m₃ m₄ n label : List ℕ} {at a b c d r : ℕ} (clock due part : ℕ) where
+  pub lay-message : Laid o at (figure clock) m₁ a → Laid m₁ a (figure due) m₂ b → Laid m₂ b (figure part) m₃ c → Laid m₃ c label m₄ d → Laid m₄ d (newline ∷ []) n r
+      → Laid o at (messageLine clock due part label) n r
   unfolding messageLine
-  lay-message p q s t u = laid-join o m₁ n _ _ 0 a r p (laid-join m₁ m₂ n _ _ a b r q (laid-join m₂ m₃ n _ _ b c r s (laid-join m₃ m₄ n _ _ c d r t u)))
+  lay-message p q s t u = laid-join o m₁ n _ _ at a r p (laid-join m₁ m₂ n _ _ a b r q (laid-join m₂ m₃ n _ _ b c r s (laid-join m₃ m₄ n _ _ c d r t u)))

@@ -1,35 +1,36 @@
 -- The fixed words of `play`, in ASCII.
 use Prim.Native.Nat.{ℕ}
-use mathlib.Core.List.{List, [], _∷_}
+use mathlib.Core.List.{List}
+use Rattle.ascii.specs.Text.{bytesOf}
 
 -- "`O parts tempo` (first, once), `H event tempo`, `T ms`"
 abbrev pub openCommand : List ℕ
-openCommand = 79 ∷ 32 ∷ []
+openCommand = bytesOf "O "
 
 abbrev pub hearCommand : List ℕ
-hearCommand = 72 ∷ 32 ∷ []
+hearCommand = bytesOf "H "
 
 abbrev pub passCommand : List ℕ
-passCommand = 84 ∷ 32 ∷ []
+passCommand = bytesOf "T "
 
 -- "It prints `open N parts C`"
 abbrev pub openWord : List ℕ
-openWord = 111 ∷ 112 ∷ 101 ∷ 110 ∷ 32 ∷ []
+openWord = bytesOf "open "
 
 abbrev pub partsWord : List ℕ
-partsWord = 32 ∷ 112 ∷ 97 ∷ 114 ∷ 116 ∷ 115 ∷ 32 ∷ []
+partsWord = bytesOf " parts "
 
 -- "`no N` for a refused call"
 abbrev pub noWord : List ℕ
-noWord = 110 ∷ 111 ∷ 32 ∷ []
+noWord = bytesOf "no "
 
 -- "`bad L` for line L"
 abbrev pub badWord : List ℕ
-badWord = 98 ∷ 97 ∷ 100 ∷ 32 ∷ []
+badWord = bytesOf "bad "
 
 -- "`end K sent S`"
 abbrev pub endWord : List ℕ
-endWord = 101 ∷ 110 ∷ 100 ∷ 32 ∷ []
+endWord = bytesOf "end "
 
 abbrev pub sentWord : List ℕ
-sentWord = 32 ∷ 115 ∷ 101 ∷ 110 ∷ 116 ∷ 32 ∷ []
+sentWord = bytesOf " sent "

@@ -1,4 +1,4 @@
-// The lines that `play` prints, each laid out from the front of `out`. Each function answers the line's length.
+// The lines that `play` prints, laid out from the front of `out`, or behind what stands there. Each function answers where the line ends.
 ghost use Prim.Native.Nat.{_+_, _≤_};
 ghost use lib.ListN.{length};
 ghost use Rattle.ascii.specs.Decimals.{mostPlaces};
@@ -47,12 +47,19 @@ pub fn open_line(out: &mut [u8], number: u64, parts: u64) -> usize
     put_words_line(out, b"open ", number, b" parts ", parts)
 }
 
-// "per message clock, due date, part and label"
-pub fn message_line(out: &mut [u8], clock: u64, due: u64, part: u64, label: &[u8]) -> usize
-    requires { ⌜ lineRoom + length (now label) ≤ length (now out) ⌝ }
-    ensures { λ r. ⌜ Laid (now (out .entry)) 0 (messageLine clock due part (now (label .entry))) (now (out .exit)) r ⌝ }
+// "per message clock, due date, part and label", behind the first `at` bytes
+pub fn message_line(
+    out: &mut [u8],
+    at: usize,
+    clock: u64,
+    due: u64,
+    part: u64,
+    label: &[u8],
+) -> usize
+    requires { ⌜ at + lineRoom + length (now label) ≤ length (now out) ⌝ }
+    ensures { λ r. ⌜ Laid (now (out .entry)) at (messageLine clock due part (now (label .entry))) (now (out .exit)) r ⌝ }
 {
-    let at = put_figure(out, 0, clock);
+    let at = put_figure(out, at, clock);
     let at = put_figure(out, at, due);
     let at = put_figure(out, at, part);
     let labelled = put_bytes(out, at, label);
