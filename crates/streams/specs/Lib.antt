@@ -1,0 +1,2 @@
+-- What moving bytes to and from the system comes to.
+pub mod Outcomes
