@@ -1,148 +1,148 @@
-// `play`: reads score.bin and commands, and prints what the electronics are sent. It moves bytes between the system and the proved libraries, and decides nothing.
+// `play`: reads score.bin and commands, and prints what the electronics are sent. It moves bytes between the system and the proved libraries.
+ghost use mathlib.Core.Path.{_≡_};
+ghost use mathlib.Core.Bool.{true, false};
 ghost use Prim.Native.Nat.{_+_, _≤_, _<_};
 ghost use lib.ListN.{length};
-use lines::Command;
-use lines::Fed;
-use sequencer::Sending;
+ghost use Rattle.score.specs.File.{Accepted};
+ghost use Rattle.lines.specs.Input.{keptBytes};
+ghost use Rattle.playing.specs.Reading.{bytesRead};
+ghost use Rattle.playing.specs.Inner.{readingOf, Asked, outputRoom, Going, WentOn};
+use playing::OUTPUT_ROOM;
+use playing::Progress;
+use playing::Step;
+use session::Refusal;
 use session::layout::MEMORY_SIZE;
 use session::layout::ROOM_SIZE;
+use streams::Got;
 
 const INPUT: i32 = 0;
 
 const OUTPUT: i32 = 1;
 
+// The statuses: the input was read to its end and all was written; the opening was refused; something could not be read or written.
+const DONE: u8 = 0;
+
+const REFUSED: u8 = 1;
+
+const FAILED: u8 = 2;
+
 // More reads than any input lasts for.
 const MOST_READS: u64 = 1000000000000000;
 
-// Where a run stands: how many lines were read, how many bytes of the next are kept, and whether a session was opened.
-struct Stand {
-    lines: u64,
-    have: usize,
-    opened: bool,
+// How far a run has come, whether the opening was refused, and whether a read or a write has failed.
+struct Run {
+    progress: Progress,
+    refused: bool,
+    failed: bool,
 }
 
-// The first n bytes of a line that was laid out.
-fn print(out: &[u8], n: usize) {
+// A step of a run: reading on, and what has come of it.
+struct Turn {
+    step: Step,
+    refused: bool,
+    failed: bool,
+}
+
+// How many bytes the score file has, and whether reading it failed.
+struct Score {
+    size: usize,
+    failed: bool,
+}
+
+// ---- what is written
+
+// The first n bytes of what was laid out; whether all of them were written.
+fn print(out: &[u8], n: usize) -> bool {
     if out.len() < n {
+        return false;
+    }
+    let from = 0;
+    if streams::write_whole(OUTPUT, &out[from..n]) {
+        return true;
+    }
+    os::fail(b"standard output: can't be written");
+    false
+}
+
+fn say_line(text: &[u8], n: usize) {
+    if text.len() < n {
         return;
     }
     let from = 0;
-    io::write_all(OUTPUT, &out[from..n]);
+    streams::say(&text[from..n]);
 }
 
-fn print_bad(number: u64) {
-    let mut out = [0u8; 128];
-    let n = lines::bad_line(&mut out, number);
-    print(&out, n);
+// The line that tells people why an opening was refused: for what is in the file, or for what is in line 1.
+fn put_refusal(text: &mut [u8], x: Refusal) -> usize
+    requires { ⌜ 256 ≤ length (now text) ⌝ }
+{
+    let Refusal::File(_) = x else {
+        return words::refusal_line(text, b"line 1", x);
+    };
+    words::refusal_line(text, b"score.bin", x)
 }
 
-fn print_no(number: u64) {
-    let mut out = [0u8; 128];
-    let n = lines::no_line(&mut out, number);
-    print(&out, n);
+fn say_refusal(file: &[u8]) {
+    let mut text = [0u8; 256];
+    let n = put_refusal(&mut text, playing::why_refused(file));
+    say_line(&text, n);
 }
 
-// The clock and the total at the end: both 0 without a session, as a refused report has them.
-fn print_end(mem: &[u64]) {
-    let r = sequencer::report_reply(sequencer::read_report(mem));
-    let s = r.figures;
-    let mut out = [0u8; 128];
-    let n = lines::end_line(&mut out, s.clock, s.total);
-    print(&out, n);
-}
-
-fn print_message(file: &[u8], clock: u64, due: u64, word: u64) {
-    let label = score::label(file, word % 65536);
-    let mut out = [0u8; 128];
-    let n = lines::message_line(&mut out, clock, due, word / 65536, label);
-    print(&out, n);
-}
-
-// The messages of a granted call, which stand in the send room in pairs; or its refusal.
-fn print_sent(file: &[u8], mem: &[u64], room: &[u64], sent: Sending) {
-    let r = sequencer::sending_reply(sent);
-    if r.number != 0 {
-        print_no(r.number as u64);
-        return;
+// Whether what a line printed is an opening's refusal.
+fn is_refusal(out: &[u8], n: usize) -> bool {
+    if out.len() < n {
+        return false;
     }
-    let a = sequencer::report_reply(sequencer::read_report(mem));
-    let s = a.figures;
-    let mut i = 0;
-    let mut left = r.count;
-    while 0 < left {
-        if room.len() <= i {
-            return;
-        }
-        if room.len() <= i + 1 {
-            return;
-        }
-        print_message(file, s.clock, room[i], room[i + 1]);
-        i += 2;
-        left -= 1;
+    let from = 0;
+    if ascii::begins(b"open 0 ", &out[from..n]) {
+        return false;
     }
+    ascii::begins(b"open ", &out[from..n])
 }
 
-// An opening's reply, and whether it was granted.
-fn begin(file: &[u8], mem: &mut [u64], parts: u64, tempo: u64) -> bool {
-    let r = opening::opening_reply(opening::open_session(mem, file, (parts % 65536) as u16, tempo));
-    let mut out = [0u8; 128];
-    let n = lines::open_line(&mut out, r.number as u64, r.parts as u64);
-    print(&out, n);
-    r.number == 0
-}
-
-// One command: what it says is done, and whether a session is open after it.
-fn act(
-    file: &[u8],
-    mem: &mut [u64],
-    room: &mut [u64],
-    c: Command,
-    number: u64,
-    opened: bool,
-) -> bool {
-    match c {
-        Command::Open(parts, tempo) => begin(file, mem, parts, tempo),
-        Command::Hear(event, tempo) => {
-            let sent = sequencer::hear(mem, room, event, tempo);
-            print_sent(file, mem, room, sent);
-            opened
-        }
-        Command::Pass(ms) => {
-            let sent = sequencer::pass(mem, room, ms);
-            print_sent(file, mem, room, sent);
-            opened
-        }
-        Command::Bad => {
-            print_bad(number);
-            opened
-        }
+// Whether an opening has been refused, after a line that printed the first n bytes of `out`.
+fn after_line(file: &[u8], out: &[u8], n: usize, refused: bool) -> bool {
+    if !is_refusal(out, n) {
+        return refused;
     }
+    say_refusal(file);
+    true
 }
 
-// The line of which `have` bytes are kept.
+// ---- the input
+
+// Reads on in the chunk, and prints what the line that ended has laid out.
 fn take_line(
     file: &[u8],
     mem: &mut [u64],
     room: &mut [u64],
-    line: &[u8],
-    have: usize,
-    number: u64,
-    opened: bool,
-) -> bool {
-    if line.len() < have {
-        return opened;
-    }
-    let from = 0;
-    let c = lines::command_in_turn(&line[from..have], number == 1, opened);
-    act(file, mem, room, c, number, opened)
-}
-
-// Where bytes are left, reading on gets on.
-fn read_on(chunk: &[u8], at: usize, line: &mut [u8], have: usize) -> Fed
-    requires { ⌜ (at < length (now chunk)) × (have ≤ 24) × (24 ≤ length (now line)) ⌝ }
-    ensures { λ r. ⌜ (r .next ≤ length (now (chunk .entry))) × (at < r .next) × (r .have ≤ 24) ⌝ }
+    chunk: &[u8],
+    at: usize,
+    line: &mut [u8],
+    p: Progress,
+    refused: bool,
+    out: &mut [u8],
+) -> Turn
+    requires { ⌜ Going (now file) (now chunk) at (now line) p (now out) ⌝ }
+    ensures { λ r. ⌜
+        WentOn (now (file .entry)) (now (chunk .entry)) at (now (mem .entry)) (now (room .entry)) (now (line .entry)) p (now (out .entry))
+        (now (mem .exit)) (now (room .exit)) (now (line .exit)) (now (out .exit)) (r .step)
+        ⌝ }
 {
-    lines::feed(chunk, at, line, have)
+    let step = playing::go_on(file, mem, room, chunk, at, line, p, out);
+    if !print(out, step.count) {
+        return Turn {
+            step,
+            refused,
+            failed: true,
+        };
+    }
+    let refused = after_line(file, out, step.count, refused);
+    Turn {
+        step,
+        refused,
+        failed: false,
+    }
 }
 
 // The lines that end in a chunk of the input are carried out, and the start of the next is kept.
@@ -152,29 +152,40 @@ fn take_chunk(
     room: &mut [u64],
     chunk: &[u8],
     line: &mut [u8],
-    s: Stand,
-) -> Stand
-    requires { ⌜ (s .have ≤ 24) × (24 ≤ length (now line)) × (s .lines ≤ 5000000000000000000) × (length (now chunk) ≤ 4096) ⌝ }
-    ensures { λ r. ⌜ (r .have ≤ 24) × (r .lines ≤ s .lines + length (now (chunk .entry))) ⌝ }
+    s: Run,
+    out: &mut [u8],
+) -> Run
+    requires { ⌜ Going (now file) (now chunk) 0 (now line) (s .progress) (now out) ⌝ }
+    ensures { λ r. ⌜
+        (r .progress .have ≤ keptBytes)
+        × (r .progress .lines ≤ s .progress .lines + length (now (chunk .entry)))
+        × Asked (now (file .entry)) (r .progress .opened) (now (out .exit))
+        × (r .failed ≡ false →
+        readingOf (now (mem .exit)) (now (room .exit)) (now (line .exit)) (r .progress)
+        ≡ bytesRead (now (file .entry)) (readingOf (now (mem .entry)) (now (room .entry)) (now (line .entry)) (s .progress)) (now (chunk .entry)) .reading)
+        ⌝ }
 {
     let mut at = 0;
-    let mut number = s.lines;
-    let mut have = s.have;
-    let mut opened = s.opened;
+    let mut p = s.progress;
+    let mut refused = s.refused;
     while at < chunk.len() {
-        let fed = read_on(chunk, at, line, have);
-        at = fed.next;
-        have = fed.have;
-        if fed.ended {
-            number += 1;
-            opened = take_line(file, mem, room, line, have, number, opened);
-            have = 0;
+        let turn = take_line(file, mem, room, chunk, at, line, p, refused, out);
+        let step = turn.step;
+        p = step.progress;
+        refused = turn.refused;
+        at = step.next;
+        if turn.failed {
+            return Run {
+                progress: p,
+                refused,
+                failed: true,
+            };
         }
     }
-    Stand {
-        lines: number,
-        have,
-        opened,
+    Run {
+        progress: p,
+        refused,
+        failed: false,
     }
 }
 
@@ -186,82 +197,173 @@ fn take_part(
     chunk: &[u8],
     n: usize,
     line: &mut [u8],
-    s: Stand,
-) -> Stand
-    requires { ⌜ (s .have ≤ 24) × (24 ≤ length (now line)) × (s .lines ≤ 5000000000000000000) × (length (now chunk) ≤ 4096) ⌝ }
-    ensures { λ r. ⌜ (r .have ≤ 24) × (r .lines ≤ s .lines + 4096) ⌝ }
+    s: Run,
+    out: &mut [u8],
+) -> Run
+    requires { ⌜ Going (now file) (now chunk) 0 (now line) (s .progress) (now out) ⌝ }
+    ensures { λ r. ⌜
+        (r .progress .have ≤ keptBytes)
+        × (r .progress .lines ≤ s .progress .lines + length (now (chunk .entry)))
+        × Asked (now (file .entry)) (r .progress .opened) (now (out .exit))
+        ⌝ }
 {
     if chunk.len() < n {
         return s;
     }
     let from = 0;
-    take_chunk(file, mem, room, &chunk[from..n], line, s)
+    take_chunk(file, mem, room, &chunk[from..n], line, s, out)
+}
+
+// The run at the end of its input, or where a read failed.
+fn ended(got: Got, s: Run) -> Run
+    ensures { λ r. ⌜ r .progress ≡ s .progress ⌝ }
+{
+    let Got::Failed = got else {
+        return s;
+    };
+    os::fail(b"standard input: can't be read");
+    let progress = s.progress;
+    Run {
+        progress,
+        refused: s.refused,
+        failed: true,
+    }
 }
 
 // The lines that end before the input does, and the start of what is left.
-fn read_lines(file: &[u8], mem: &mut [u64], room: &mut [u64], line: &mut [u8]) -> Stand
-    requires { ⌜ 24 ≤ length (now line) ⌝ }
-    ensures { λ r. ⌜ (r .have ≤ 24) × (r .lines ≤ 5000000000000000000) ⌝ }
+fn read_lines(
+    file: &[u8],
+    mem: &mut [u64],
+    room: &mut [u64],
+    line: &mut [u8],
+    out: &mut [u8],
+) -> Run
+    requires { ⌜ (keptBytes ≤ length (now line)) × (outputRoom ≤ length (now out)) ⌝ }
+    ensures { λ r. ⌜
+        (r .progress .have ≤ keptBytes)
+        × (r .progress .lines ≤ 5000000000000000000)
+        × Asked (now (file .entry)) (r .progress .opened) (now (out .exit))
+        ⌝ }
 {
     let mut chunk = [0u8; 4096];
-    let mut s = Stand {
-        lines: 0,
-        have: 0,
-        opened: false,
+    let mut s = Run {
+        progress: Progress {
+            lines: 0,
+            have: 0,
+            opened: false,
+        },
+        refused: false,
+        failed: false,
     };
     let mut reads: u64 = 0;
     while reads < MOST_READS {
-        let got = libc::read(INPUT, &mut chunk);
-        let n = io::count(got, &chunk);
-        if n == 0 {
+        let got = streams::read_some(INPUT, &mut chunk);
+        let Got::Bytes(n) = got else {
+            return ended(got, s);
+        };
+        s = take_part(file, mem, room, &chunk, n, line, s, out);
+        if s.failed {
             return s;
         }
-        s = take_part(file, mem, room, &chunk, n, line, s);
         reads += 1;
     }
     s
 }
 
-// What is left after the last newline is a line too, if there is any.
-fn last_line(file: &[u8], mem: &mut [u64], room: &mut [u64], line: &[u8], s: Stand)
-    requires { ⌜ s .lines ≤ 5000000000000000000 ⌝ }
+// The input's end: the line that is left, if any is, and the end. How the run has come out.
+fn finish(file: &[u8], mem: &mut [u64], room: &mut [u64], line: &[u8], s: Run, out: &mut [u8]) -> u8
+    requires { ⌜
+        (s .progress .have ≤ length (now line))
+        × (s .progress .lines ≤ 5000000000000000000)
+        × Asked (now file) (s .progress .opened) (now out)
+        ⌝ }
 {
-    if s.have == 0 {
-        return;
+    let n = playing::last_line(file, mem, room, line, s.progress, out);
+    if !print(out, n) {
+        return FAILED;
     }
-    take_line(file, mem, room, line, s.have, s.lines + 1, s.opened);
+    let refused = after_line(file, out, n, s.refused);
+    let n = playing::end_line(mem, out);
+    if !print(out, n) {
+        return FAILED;
+    }
+    if refused {
+        return REFUSED;
+    }
+    DONE
 }
 
-fn run(file: &[u8], mem: &mut [u64], room: &mut [u64]) {
+fn play(file: &[u8], mem: &mut [u64], room: &mut [u64], out: &mut [u8]) -> u8
+    requires { ⌜ outputRoom ≤ length (now out) ⌝ }
+{
     let mut line = [0u8; 24];
-    let s = read_lines(file, mem, room, &mut line);
-    last_line(file, mem, room, &line, s);
-    print_end(mem);
+    let s = read_lines(file, mem, room, &mut line, out);
+    if s.failed {
+        return FAILED;
+    }
+    finish(file, mem, room, &line, s, out)
 }
 
-// The score file's bytes, as many as there is room for: more than any score has, so that a longer file is refused for its length. A file that can't be read has none.
-fn read_score(file: &mut [u8]) -> usize {
+// ---- the score
+
+// A score file that can't be opened is read as an empty one.
+fn no_score() -> Score {
+    if os::errno() == libc::ENOENT {
+        streams::say(b"score.bin: missing, read as an empty file\n");
+        return Score {
+            size: 0,
+            failed: false,
+        };
+    }
+    os::fail(b"score.bin: can't be read");
+    Score {
+        size: 0,
+        failed: true,
+    }
+}
+
+// The score file's bytes, as many as there is room for: more than any score has, so that a longer file is refused for its length.
+fn read_score(file: &mut [u8]) -> Score {
     let fd = os::open_read(b"score.bin");
     if fd < 0 {
-        return 0;
+        return no_score();
     }
-    let n = io::read_full(fd, file);
+    let read = streams::read_whole(fd, file);
+    if read.failed {
+        os::fail(b"score.bin: can't be read");
+    }
     libc::close(fd);
-    n
+    if read.failed {
+        return Score {
+            size: 0,
+            failed: true,
+        };
+    }
+    Score {
+        size: read.count,
+        failed: false,
+    }
 }
 
-fn run_part(file: &[u8], size: usize, mem: &mut [u64], room: &mut [u64]) {
+fn run_part(file: &[u8], size: usize, mem: &mut [u64], room: &mut [u64], out: &mut [u8]) -> u8
+    requires { ⌜ outputRoom ≤ length (now out) ⌝ }
+{
     if file.len() < size {
-        return;
+        return FAILED;
     }
     let from = 0;
-    run(&file[from..size], mem, room);
+    play(&file[from..size], mem, room, out)
 }
 
 fn main() {
     let mut file = [0u8; 65536];
     let mut mem = [0u64; MEMORY_SIZE];
     let mut room = [0u64; ROOM_SIZE];
-    let size = read_score(&mut file);
-    run_part(&file, size, &mut mem, &mut room);
+    let mut out = [0u8; OUTPUT_ROOM];
+    let score = read_score(&mut file);
+    let status = run_part(&file, score.size, &mut mem, &mut room, &mut out);
+    if score.failed {
+        return streams::tell_status(FAILED);
+    }
+    streams::tell_status(status);
 }

@@ -1,18 +1,42 @@
--- Reading on gets on at each turn, so a chunk ends no more lines than it has bytes. Assumes nothing.
+-- At each turn a line is read on, and what is owed stays.
+-- Assumes nothing.
 use mathlib.Core.Path.{_≡_}
-use Prim.Native.Nat.{_≤_, _-_, _+_}
+use Prim.Native.Nat.{_-_}
 use lib.ListN.{length}
+use Rattle.playing.specs.Inner.{readingOf}
 use borrow.Author.Needs.{needs}
+use Rattle.play.proofs.ChunkSteps.{Taking, taking-step, taking-lines, onward, failed, chunks}
 use Rattle.play.proofs.take_chunk.Statement.{statement}
 use Rattle.play.proofs.take_chunk.Tie as tie
 
 abbrev Inv-loop : tie.InvT-loop
-Inv-loop file mem₀ room₀ chunk line₀ at₀ number₀ have₀ opened₀ mem room line at number have opened =
-    (length mem ≡ length mem₀) × (length room ≡ length room₀) × (length line ≡ length line₀) × (24 ≤ length line) × (at ≤ length chunk) × (have ≤ 24) × (number ≤ number₀ + at)
+Inv-loop file mem₀ room₀ chunk line₀ out₀ at₀ p₀ refused₀ mem room line out at p refused =
+    Taking file chunk (readingOf mem₀ room₀ line₀ p₀) (p₀ .lines) mem room line out at p
+    × (length mem ≡ length mem₀) × (length room ≡ length room₀) × (length line ≡ length line₀) × (length out ≡ length out₀)
 
 abbrev μ-loop : tie.MeasureT-loop
-μ-loop file mem₀ room₀ chunk line₀ at₀ number₀ have₀ opened₀ mem room line at number have opened =
-    length chunk - at
+μ-loop file mem₀ room₀ chunk line₀ out₀ at₀ p₀ refused₀ mem room line out at p refused = length chunk - at
+
+loop-less : tie.Need-loop-less Inv-loop μ-loop
+loop-less c =
+    let turn = c .before .before .before .before .before .before .before .before .before .before .before in
+    onward (turn .take-line .ensures) (turn .before .before .before .before .before .loop-test .taken)
+
+loop-again : tie.Need-loop-again Inv-loop μ-loop
+loop-again c =
+    let turn = c .before .before .before .before .before .before .before .before .before .before .before in
+    let test = turn .before .before .before .before .before in
+    (taking-step (test .before .loop .inv .0) (turn .take-line .ensures) (test .loop-test .taken) (search needs), search needs, search needs, search needs, search needs)
+
+returns : tie.Need-returns Inv-loop μ-loop
+returns c =
+    let turn = c .before .before .before .before .before .before .before .before .before .before .before in
+    let test = turn .before .before .before .before .before in
+    let t = taking-step (test .before .loop .inv .0) (turn .take-line .ensures) (test .loop-test .taken) (search needs) in
+    (t .going .kept, taking-lines _ _ _ _ _ _ _ _ _ _ t, t .going .asked, λ e. failed _ _ e)
+
+returns-2 : tie.Need-returns-2 Inv-loop μ-loop
+returns-2 c = search chunks
 
 pub take-chunk-spec : {M : Type 1} → statement M
 take-chunk-spec =
@@ -20,15 +44,17 @@ take-chunk-spec =
     (tie.spec
     Inv-loop
     μ-loop
-    (λ c. search needs)
-    (λ c κs. search needs)
-    (λ c. search needs)
-    (λ c κs. search needs)
+    (λ c. search chunks)
+    (λ c κs. search chunks)
     (λ c. search needs)
     (λ c. search needs)
     (λ c. search needs)
     (λ c. search needs)
+    returns
+    loop-less
+    loop-again
     (λ c. search needs)
     (λ c. search needs)
     (λ c. search needs)
-    (λ c. search needs))
+    (λ c. search needs)
+    returns-2)

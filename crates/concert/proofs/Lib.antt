@@ -1,0 +1,4 @@
+-- What is printed is what the rules give.
+pub mod MessageNumbers
+pub mod AnswerTold
+pub mod Told

@@ -1,0 +1,70 @@
+-- What `play` prints from a granted opening on, by the score and the history of the calls alone: no session memory, and nothing of what a send room holds.
+use Prim.Native.Nat.{ℕ, _+_}
+use mathlib.Core.List.{List, [], _∷_, _++_}
+use lib.ListN.{length}
+use Rattle.base.specs.Checks.{Check, fine, refused}
+use Rattle.score.specs.Piece.{decode}
+use Rattle.score.specs.LookUp.{labelBytes}
+use Rattle.rules.specs.Terms.{Terms}
+use Rattle.rules.specs.Page.{Entry}
+use Rattle.session.specs.declared.Refusal.{Refusal}
+use Rattle.session.specs.Layout.{roomSize}
+use Rattle.session.specs.Parts.{sounds, soundingBelow}
+use Rattle.session.specs.Replies.{refusalRow}
+use Rattle.opening.specs.Opening.{zeros}
+use Rattle.demands.specs.History.{Call, note, pass, Now, start, verdict, moved, after}
+use Rattle.demands.specs.Messages.{Sent}
+use Rattle.demands.specs.Answers.{messagesOf, messagesBy, soundingIn}
+use Rattle.lines.specs.declared.Command.{Command}
+use Rattle.lines.specs.declared.Command.the-variants.{Open, Hear, Pass, Bad}
+use Rattle.lines.specs.Commands.{commandOf}
+use Rattle.lines.specs.Output.{openLine, messageLine, noLine, badLine, endLine}
+
+-- ---- a call
+
+-- "per message clock, due date, part and label"
+unfoldable pub messageTold : (file : List ℕ) → (clock : ℕ) → Sent → List ℕ
+messageTold f k x = messageLine k (x .due) (x .part) (labelBytes f (x .message))
+
+unfoldable pub messagesTold : (file : List ℕ) → (clock : ℕ) → List Sent → List ℕ
+messagesTold f k [] = []
+messagesTold f k (x ∷ l) = messageTold f k x ++ messagesTold f k l
+
+-- "`no N` for a refused call"
+unfoldable pub sendingTold : (file : List ℕ) → Check Refusal → (clock : ℕ) → List Sent → List ℕ
+sendingTold f fine k l = messagesTold f k l
+sendingTold f (refused x) k l = noLine (refusalRow x .number)
+
+-- By the history before it: whether it is refused, the clock after it, and the messages that the rules give these sequences.
+unfoldable pub callTold : (file durations : List ℕ) → List Entry → Now → Call → List ℕ
+callTold f ds es s c = sendingTold f (verdict (length ds) s c) (moved s c .clock) (messagesOf ds es s c)
+
+-- ---- a line
+
+-- What a line after the opening asks for: a call, or none.
+pub data Asking : Type 0 where
+  call : Call → Asking
+  none : Asking
+
+-- The send room is of the length that is asked for. An `O` is out of turn after the first line.
+unfoldable pub askedBy : Command → Asking
+askedBy (Open parts tempo) = none
+askedBy (Hear event tempo) = call (note (zeros roomSize) event tempo)
+askedBy (Pass ms) = call (pass (zeros roomSize) ms)
+askedBy Bad = none
+
+-- These lines, of which the first is line n, and the end: "`bad L` for line L that it can't read or that comes out of turn"; "last `end K sent S`". So far total
+-- messages were sent.
+unfoldable pub toldFrom : (file durations : List ℕ) → List Entry → (line total : ℕ) → Now → List (List ℕ) → List ℕ
+toldFrom f ds es n total s [] = endLine (s .clock) total
+toldFrom f ds es n total s (l ∷ ls) =
+    elim (askedBy (commandOf l)) [
+      | call c ↦ callTold f ds es s c ++ toldFrom f ds es (n + 1) (total + length (messagesBy ds es s c)) (after (length ds) s c) ls
+      | none ↦ badLine n ++ toldFrom f ds es (n + 1) total s ls
+    ]
+
+-- ---- the whole input
+
+-- A granted opening on these terms as the first line, and the lines after it. "`open N parts C` (reply number, sounding parts, 0 if refused)"
+unfoldable pub told : (file : List ℕ) → Terms → List (List ℕ) → List ℕ
+told f o ls = openLine 0 (soundingBelow (o .parts) 16) ++ toldFrom f (decode f .durations) (soundingIn f (sounds (o .parts))) 2 0 (start o) ls

@@ -1,0 +1,2 @@
+-- Laws of the loop over a chunk.
+mod ChunkSteps

@@ -1,0 +1,10 @@
+-- Laws of what is printed, for the proofs of several functions and for the program above.
+pub mod SentSteps
+pub mod CallSteps
+pub mod OpenSteps
+pub mod LineSteps
+pub mod ReadingLaws
+pub mod GoingSteps
+pub mod Chunks
+pub mod LongScore
+pub mod OneOutcome

@@ -1,0 +1,182 @@
+-- A file that is longer than any score is refused, cut or whole, with the same number: so it is enough to read its first bytes.
+-- The contents are the same and decide; no session is ever open, and no label is asked for. Assumes nothing.
+use mathlib.Core.Path.{_≡_, refl, ap, _∙_}
+use mathlib.Core.Bool.{Bool, true, false}
+use mathlib.Core.List.{List, [], _∷_, _++_}
+use Prim.Native.Nat.{ℕ, _+_, _<_, _≤_}
+use native.Mathlib.Omega.{arith}
+use lib.ListN.{length, take}
+use lib.Seq.{take-all, getD-take, length-take-le}
+use lib.Dec.{leb, eqb}
+use borrow.Author.Tests.{le-leb, leb-true, leb-false, ne-eqb}
+use Rattle.base.specs.Tests.{pick}
+use Rattle.base.specs.Checks.{Check, fine, refused, need, firstFault}
+use Rattle.score.specs.declared.Fault.{Fault}
+use Rattle.score.specs.declared.Fault.the-variants.{FileShort, BadCount, BadOffset, BadLength, BadEvent, BadItem, BadMessage, TextLeft, NoMessage}
+use Rattle.score.specs.declared.contents.Counts.{Counts}
+use Rattle.score.specs.declared.contents.Offsets.{Offsets}
+use Rattle.score.specs.Limits.{contentsSize}
+use Rattle.score.specs.Bytes.{u16At, u32At}
+use Rattle.score.specs.Contents.{countsOf, offsetsOf, countsRight, offsetsRight, sizeOf}
+use Rattle.score.specs.Inner.{Counted}
+use Rattle.score.specs.File.{checked}
+use Rattle.score.specs.Replies.{faultRow}
+use Rattle.score.proofs.ContentsLaws.{counts-held, offsets-held}
+use Rattle.score.proofs.Accepted.{file-sized}
+use Rattle.rules.specs.Terms.{Terms}
+use Rattle.session.specs.declared.Refusal.{Refusal}
+use Rattle.session.specs.declared.Refusal.the-variants.{MemoryShort, RoomShort, File, BadTempo, NoSession, NoEvent, NotAfter, BadMillis, ClockFull}
+use Rattle.session.specs.Replies.{refusalRow}
+use Rattle.opening.specs.Opening.{openingCheck}
+use Rattle.opening.specs.Replies.{openingReply}
+use Rattle.opening.proofs.Opened.{opened-accepted, refused-kept}
+use Rattle.lines.specs.declared.Command.{Command}
+use Rattle.lines.specs.declared.Command.the-variants.{Open, Hear, Pass, Bad}
+use Rattle.lines.specs.Commands.{commandOf, inTurn}
+use Rattle.playing.proofs.OpenSteps.{refusal-numbered}
+use Rattle.playing.specs.Printed.{Stand, Carried, carriedOpening, carriedBy, carried, printedFrom, outset, linesOf, printed}
+
+-- The longest score has 52,256 bytes.
+abbrev pub longestScore : ℕ
+longestScore = 52256
+
+-- As much of a score file as is read.
+abbrev pub fileRoom : ℕ
+fileRoom = 65536
+
+-- ---- a longer file is refused
+
+counted-size : (c : Counts) → Counted c → sizeOf c ≤ longestScore
+counted-size c h = omega arith
+
+pub long-refused : (f : List ℕ) → longestScore < length f → checked f ≡ fine → ⊥
+long-refused f p e =
+    let s = file-sized f (record { fine = e }) in
+    let z : sizeOf (countsOf f) ≤ longestScore = counted-size (countsOf f) (s .counted) in
+    let w : length f ≡ sizeOf (countsOf f) = s .whole in
+    omega arith
+
+-- ---- cut, it has the same fault
+
+-- the later checks count for nothing where this one finds a fault
+first-alike : {X : Type 0} (v : Check X) (l l′ : List (Check X)) → (v ≡ fine → firstFault l ≡ firstFault l′) → firstFault (v ∷ l) ≡ firstFault (v ∷ l′)
+unfolding firstFault
+first-alike fine l l′ h = h refl
+first-alike (refused x) l l′ h = refl
+
+other-size : (o : Offsets) (c : Counts) (a b : ℕ) → sizeOf c < a → sizeOf c < b → offsetsRight o c a ≡ offsetsRight o c b
+unfolding offsetsRight
+other-size o c a b p q =
+    let x : eqb a (sizeOf c) ≡ false = ne-eqb a (sizeOf c) (λ e. omega arith) in
+    let y : eqb b (sizeOf c) ≡ false = ne-eqb b (sizeOf c) (λ e. omega arith) in
+    rw (x, y)
+
+module _ (f : List ℕ) (n : ℕ) (long : longestScore < n) (cut : n ≤ length f) where
+  u32-cut : (at : ℕ) → at + 4 ≤ n → u32At (take n f) at ≡ u32At f at
+  unfolding u32At u16At
+  u32-cut at p =
+      let a = getD-take n f at 0 (omega arith) in
+      let b = getD-take n f (at + 1) 0 (omega arith) in
+      let c = getD-take n f (at + 2) 0 (omega arith) in
+      let d = getD-take n f (at + 2 + 1) 0 (omega arith) in
+      rw (a, b, c, d)
+
+  counts-cut : countsOf (take n f) ≡ countsOf f
+  unfolding countsOf
+  counts-cut = rw (u32-cut 4 (omega arith), u32-cut 12 (omega arith), u32-cut 20 (omega arith), u32-cut 28 (omega arith))
+
+  offsets-cut : offsetsOf (take n f) ≡ offsetsOf f
+  unfolding offsetsOf
+  offsets-cut = rw (u32-cut 0 (omega arith), u32-cut 8 (omega arith), u32-cut 16 (omega arith), u32-cut 24 (omega arith))
+
+  -- the offsets or the length are at fault, in the same way
+  tables-alike : (l l′ : List (Check Fault)) → countsRight (countsOf f) ≡ fine
+      → firstFault (offsetsRight (offsetsOf f) (countsOf f) n ∷ l) ≡ firstFault (offsetsRight (offsetsOf f) (countsOf f) (length f) ∷ l′)
+  tables-alike l l′ e =
+      let z : sizeOf (countsOf f) ≤ longestScore = counted-size (countsOf f) (counts-held (countsOf f) e) in
+      rw (other-size (offsetsOf f) (countsOf f) n (length f) (omega arith) (omega arith))
+      (first-alike (offsetsRight (offsetsOf f) (countsOf f) (length f)) l l′ (λ w. let h = offsets-held (offsetsOf f) (countsOf f) (length f) w .whole in absurd (omega arith)))
+
+  pub checked-cut : checked (take n f) ≡ checked f
+  unfolding checked
+  checked-cut =
+      let a : leb contentsSize n ≡ true = le-leb contentsSize n (omega arith) in
+      let b : leb contentsSize (length f) ≡ true = le-leb contentsSize (length f) (omega arith) in
+      rw (counts-cut, offsets-cut, length-take-le n f cut, a, b)
+      (first-alike (need true FileShort) _ _ (λ _. first-alike (countsRight (countsOf f)) _ _ (λ e. tables-alike _ _ e)))
+
+  check-cut : (m : List ℕ) (o : Terms) → openingCheck m (take n f) o ≡ openingCheck m f o
+  unfolding openingCheck
+  check-cut m o = rw checked-cut
+
+-- ---- no opening is granted on it
+
+-- Two carryings-out that are the same, and leave no session open.
+record Alike (c d : Carried) : Type 0 where
+  same : c ≡ d
+  closed : d .stand .opened ≡ false
+
+module _ (f g : List ℕ) (alike : (m : List ℕ) (o : Terms) → openingCheck m g o ≡ openingCheck m f o) (never : (m : List ℕ) (o : Terms) → openingCheck m f o ≡ fine → ⊥) where
+  module _ (k : ℕ) (s : Stand) (closed : s .opened ≡ false) where
+    opening-alike : (parts tempo : ℕ) → Alike (carriedBy g k s (Open parts tempo)) (carriedBy f k s (Open parts tempo))
+    unfolding carriedBy carriedOpening openingReply
+    opening-alike parts tempo = go (openingCheck (s .memory) f o) refl where
+      o : Terms
+      o = record { parts = parts; tempo = tempo }
+
+      go : (v : Check Refusal) → openingCheck (s .memory) f o ≡ v → Alike (carriedBy g k s (Open parts tempo)) (carriedBy f k s (Open parts tempo))
+      go fine e = absurd (never (s .memory) o e)
+      go (refused x) e =
+          let a = refused-kept (s .memory) f o x e in
+          let b = refused-kept (s .memory) g o x (alike (s .memory) o ∙ e) in
+          rw (a, b) (record { same = refl; closed = refusal-numbered x })
+
+    bad-alike : Alike (carriedBy g k s Bad) (carriedBy f k s Bad)
+    unfolding carriedBy
+    bad-alike = record { same = refl; closed = closed }
+
+    closed-alike : (first : Bool) (c : Command) → Alike (carriedBy g k s (inTurn first false c)) (carriedBy f k s (inTurn first false c))
+    unfolding inTurn pick
+    closed-alike true (Open parts tempo) = opening-alike parts tempo
+    closed-alike false (Open parts tempo) = bad-alike
+    closed-alike first (Hear event tempo) = bad-alike
+    closed-alike first (Pass ms) = bad-alike
+    closed-alike first Bad = bad-alike
+
+    turn-alike : (first o : Bool) (c : Command) → o ≡ false → Alike (carriedBy g k s (inTurn first o c)) (carriedBy f k s (inTurn first o c))
+    turn-alike first o c e = rw e (closed-alike first c)
+
+    line-alike : (l : List ℕ) → Alike (carried g k s l) (carried f k s l)
+    unfolding carried
+    line-alike l = turn-alike (eqb k 1) (s .opened) (commandOf l) closed
+
+  lines-alike : (k : ℕ) (s : Stand) → s .opened ≡ false → (ls : List (List ℕ)) → printedFrom g k s ls ≡ printedFrom f k s ls
+  unfolding printedFrom
+  lines-alike k s closed [] = refl
+  lines-alike k s closed (l ∷ ls) =
+      let a = line-alike k s closed l in
+      ap (λ (c : Carried). c .output ++ printedFrom g (k + 1) (c .stand) ls) (a .same)
+      ∙ ap (λ (o : List ℕ). carried f k s l .output ++ o) (lines-alike (k + 1) (carried f k s l .stand) (a .closed) ls)
+
+-- ---- what is printed
+
+never-granted : (f : List ℕ) → longestScore < length f → (m : List ℕ) (o : Terms) → openingCheck m f o ≡ fine → ⊥
+never-granted f p m o e = long-refused f p (opened-accepted m f o e .fine)
+
+pub long-file : (f input : List ℕ) (n : ℕ) → longestScore < n → n ≤ length f → printed (take n f) input ≡ printed f input
+unfolding printed outset
+long-file f input n p q =
+    let never : (m : List ℕ) (o : Terms) → openingCheck m f o ≡ fine → ⊥ = never-granted f (omega arith) in
+    lines-alike f (take n f) (check-cut f n p q) never 1 outset refl (linesOf input)
+
+pub long-score : (f input : List ℕ) → fileRoom ≤ length f → printed (take fileRoom f) input ≡ printed f input
+long-score f input p = long-file f input fileRoom (omega arith) p
+
+-- The same of any file: a shorter one is read whole.
+pub score-read : (f input : List ℕ) → printed (take fileRoom f) input ≡ printed f input
+score-read f input = go (leb fileRoom (length f)) refl where
+  go : (t : Bool) → leb fileRoom (length f) ≡ t → printed (take fileRoom f) input ≡ printed f input
+  go true e = long-score f input (leb-true fileRoom (length f) e)
+  go false e =
+      let p : length f < fileRoom = leb-false fileRoom (length f) e in
+      ap (λ (l : List ℕ). printed l input) (take-all fileRoom f (omega arith))

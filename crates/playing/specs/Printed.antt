@@ -1,0 +1,107 @@
+-- "The program `play` reads the file `score.bin` and commands from standard input": what it prints, from the bytes of the one and of the other.
+use Prim.Native.Nat.{ℕ, _+_, _/_, _%_}
+use mathlib.Core.Bool.{Bool, true, false}
+use mathlib.Core.List.{List, [], _∷_, _++_}
+use lib.Dec.{eqb}
+use Rattle.base.specs.Tests.{pick}
+use Rattle.ascii.specs.Words.{newline}
+use Rattle.score.specs.LookUp.{labelBytes}
+use Rattle.session.specs.Layout.{memorySize, roomSize}
+use Rattle.session.specs.Replies.{refusalRow}
+use Rattle.sending.specs.Room.{Message, pairsIn}
+use Rattle.opening.specs.Opening.{zeros, OpeningResult, opened}
+use Rattle.opening.specs.Replies.{openingReply}
+use Rattle.sequencer.specs.declared.Sending.{Sending}
+use Rattle.sequencer.specs.declared.Sending.the-variants.{Sent, Refused as notSent}
+use Rattle.sequencer.specs.declared.Figures.{Figures}
+use Rattle.sequencer.specs.Replies.{reportReply}
+use Rattle.sequencer.specs.Calls.{SendingResult, heardNote, passingTime, reported}
+use Rattle.lines.specs.declared.Command.{Command}
+use Rattle.lines.specs.declared.Command.the-variants.{Open, Hear, Pass, Bad}
+use Rattle.lines.specs.Commands.{commandOf, inTurn}
+use Rattle.lines.specs.Output.{openLine, messageLine, noLine, badLine, endLine}
+
+-- ---- the input's lines
+
+-- "nothing after the last newline is no line"
+unfoldable pub lastLine : List ℕ → List (List ℕ)
+lastLine [] = []
+lastLine (b ∷ bs) = (b ∷ bs) ∷ []
+
+-- "A line ends at a newline byte or the input's end". The first line has begun with these bytes.
+unfoldable pub linesFrom : (begun input : List ℕ) → List (List ℕ)
+linesFrom begun [] = lastLine begun
+linesFrom begun (b ∷ bs) = pick (eqb b newline) (begun ∷ linesFrom [] bs) (linesFrom (begun ++ (b ∷ [])) bs)
+
+unfoldable pub linesOf : List ℕ → List (List ℕ)
+linesOf input = linesFrom [] input
+
+-- ---- a line carried out
+
+-- Where a run stands between two lines: the session memory, the send room, and whether an opening was granted.
+pub record Stand : Type 0 where
+  pub memory : List ℕ
+  pub room : List ℕ
+  pub opened : Bool
+
+-- A line carried out: where the run stands after it, and the bytes that it prints.
+pub record Carried : Type 0 where
+  pub stand : Stand
+  pub output : List ℕ
+
+-- What the report gives: every figure is 0 where there is no session.
+unfoldable pub figuresOf : List ℕ → Figures
+figuresOf m = reportReply (reported m) .figures
+
+-- "per message clock, due date, part and label", of the send room's "part x 65,536 + message number"
+unfoldable pub sentLine : (file : List ℕ) → (clock : ℕ) → Message → List ℕ
+sentLine f k x = messageLine k (x .due) (x .word / 65536) (labelBytes f (x .word % 65536))
+
+unfoldable pub sentLines : (file : List ℕ) → (clock : ℕ) → List Message → List ℕ
+sentLines f k [] = []
+sentLines f k (x ∷ l) = sentLine f k x ++ sentLines f k l
+
+-- "`no N` for a refused call"
+unfoldable pub sendingLines : (file memory room : List ℕ) → Sending → List ℕ
+sendingLines f m room (Sent c) = sentLines f (figuresOf m .clock) (pairsIn c 0 room)
+sendingLines f m room (notSent x) = noLine (refusalRow x .number)
+
+-- "`open N parts C` (reply number, sounding parts, 0 if refused)"
+unfoldable pub carriedOpening : (room : List ℕ) → OpeningResult → Carried
+carriedOpening room r =
+    let y = openingReply (r .reply) in
+    record { stand = record { memory = r .memory; room = room; opened = eqb (y .number) 0 }; output = openLine (y .number) (y .parts) }
+
+unfoldable pub carriedSending : (file : List ℕ) → Bool → SendingResult → Carried
+carriedSending f o r =
+    record { stand = record { memory = r .memory; room = r .room; opened = o }; output = sendingLines f (r .memory) (r .room) (r .reply) }
+
+-- "`bad L` for line L that it can't read or that comes out of turn"
+unfoldable pub carriedBy : (file : List ℕ) → (line : ℕ) → Stand → Command → Carried
+carriedBy f n s (Open parts tempo) = carriedOpening (s .room) (opened (s .memory) f (record { parts = parts; tempo = tempo }))
+carriedBy f n s (Hear event tempo) = carriedSending f (s .opened) (heardNote (s .memory) (s .room) event tempo)
+carriedBy f n s (Pass ms) = carriedSending f (s .opened) (passingTime (s .memory) (s .room) ms)
+carriedBy f n s Bad = record { stand = s; output = badLine n }
+
+-- Line n of the input. An opening is "first, once".
+unfoldable pub carried : (file : List ℕ) → (line : ℕ) → Stand → List ℕ → Carried
+carried f n s l = carriedBy f n s (inTurn (eqb n 1) (s .opened) (commandOf l))
+
+-- ---- the whole input
+
+-- "last `end K sent S` (clock and total, both 0 without a session)"
+unfoldable pub ending : (memory : List ℕ) → List ℕ
+ending m = endLine (figuresOf m .clock) (figuresOf m .total)
+
+-- These lines, of which the first is line n, and the end.
+unfoldable pub printedFrom : (file : List ℕ) → (line : ℕ) → Stand → List (List ℕ) → List ℕ
+printedFrom f n s [] = ending (s .memory)
+printedFrom f n s (l ∷ ls) = carried f n s l .output ++ printedFrom f (n + 1) (carried f n s l .stand) ls
+
+-- Memory and room of zeros, which is no session.
+unfoldable pub outset : Stand
+outset = record { memory = zeros memorySize; room = zeros roomSize; opened = false }
+
+-- What `play` prints.
+unfoldable pub printed : (file input : List ℕ) → List ℕ
+printed f input = printedFrom f 1 outset (linesOf input)
