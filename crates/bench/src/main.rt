@@ -1,5 +1,7 @@
-// Calls on the largest score, named by the first argument: a run of one, less a run of what it starts with, has the call's own instructions.
-use score::Reply;
+// Calls on the largest score, named by a word of four letters. Every run reads, looks for its word and prints two figures,
+// so a run of a call, less a run of what it starts with, has the call's own instructions.
+use check::same;
+use sequencer::Report;
 use sequencer::Sending;
 use session::layout::MEMORY_SIZE;
 use session::layout::ROOM_SIZE;
@@ -11,108 +13,109 @@ const ALL: u16 = 65535;
 
 const FAST: u64 = 50400;
 
-fn print_figures(a: u64, b: u64) {
-    io::print_decimal(OUT, a);
-    io::write_all(OUT, b" ");
-    io::print_decimal(OUT, b);
-    io::write_all(OUT, b"\n");
+// A reply's number, and the figure that is printed beside it.
+struct Told {
+    number: usize,
+    figure: u64,
 }
 
-fn print_reply(r: Reply) {
-    print_figures(r.number as u64, r.place as u64);
+fn tell_check(v: score::Verdict) -> Told {
+    let r = score::replied(v);
+    Told {
+        number: r.number,
+        figure: r.place as u64,
+    }
 }
 
-fn print_sent(s: Sending) {
+fn tell_sent(s: Sending) -> Told {
     let r = sequencer::sending_reply(s);
-    print_figures(r.number as u64, r.count as u64);
+    Told {
+        number: r.number,
+        figure: r.count as u64,
+    }
 }
 
-fn print_open(file: &[u8], mem: &mut [u64]) {
+fn tell_report(x: Report) -> Told {
+    let r = sequencer::report_reply(x);
+    Told {
+        number: r.number,
+        figure: r.figures.total,
+    }
+}
+
+fn open_score(mem: &mut [u64], file: &[u8]) -> Told {
     let r = opening::opening_reply(opening::open_session(mem, file, ALL, FAST));
-    print_figures(r.number as u64, r.parts as u64);
+    Told {
+        number: r.number,
+        figure: r.parts as u64,
+    }
 }
 
 // Every event from the first to the last, at clock 0.
-fn hear_all(mem: &mut [u64], room: &mut [u64]) {
+fn hear_all(mem: &mut [u64], room: &mut [u64]) -> Told {
     let mut event: u64 = 1;
-    while event <= 256 {
-        print_sent(sequencer::hear(mem, room, event, FAST));
+    while event < 256 {
+        sequencer::hear(mem, room, event, FAST);
         event += 1;
     }
-}
-
-fn run_file(word: &[u8], file: &[u8]) {
-    if check::same(word, b"check") {
-        print_reply(score::replied(score::check_file(file)));
-    }
-    if check::same(word, b"label") {
-        print_reply(score::replied(score::label_reply(file, 511)));
-    }
+    tell_sent(sequencer::hear(mem, room, event, FAST))
 }
 
 // The calls of a session that was opened just before.
-fn run_session(word: &[u8], mem: &mut [u64], room: &mut [u64]) {
-    if check::same(word, b"report") {
-        let r = sequencer::report_reply(sequencer::read_report(mem));
-        let s = r.figures;
-        print_figures(s.clock, s.total);
-        return;
+fn run_session(word: &[u8], mem: &mut [u64], room: &mut [u64], opened: Told) -> Told {
+    if same(word, b"tell") {
+        return tell_report(sequencer::read_report(mem));
     }
-    if check::same(word, b"pass") {
-        print_sent(sequencer::pass(mem, room, 1));
-        return;
+    if same(word, b"pass") {
+        return tell_sent(sequencer::pass(mem, room, 1));
     }
-    if check::same(word, b"first") {
-        print_sent(sequencer::hear(mem, room, 1, FAST));
-        return;
+    if same(word, b"note") {
+        return tell_sent(sequencer::hear(mem, room, 1, FAST));
     }
-    if check::same(word, b"last") {
-        print_sent(sequencer::hear(mem, room, 256, FAST));
-        return;
+    if same(word, b"last") {
+        return tell_sent(sequencer::hear(mem, room, 256, FAST));
     }
-    if check::same(word, b"hear_all") {
+    if same(word, b"each") {
+        return hear_all(mem, room);
+    }
+    if same(word, b"full") {
         hear_all(mem, room);
-        return;
+        return tell_sent(sequencer::pass(mem, room, 1000));
     }
-    if check::same(word, b"pass_all") {
-        hear_all(mem, room);
-        print_sent(sequencer::pass(mem, room, 1000));
-    }
+    opened
 }
 
-fn run(word: &[u8], file: &[u8], mem: &mut [u64], room: &mut [u64]) {
-    if check::same(word, b"none") {
-        return;
+fn run(word: &[u8], file: &[u8], mem: &mut [u64], room: &mut [u64]) -> Told {
+    if same(word, b"none") {
+        return Told {
+            number: 0,
+            figure: 0,
+        };
     }
-    run_file(word, file);
-    if check::same(word, b"check") {
-        return;
+    if same(word, b"file") {
+        return tell_check(score::check_file(file));
     }
-    if check::same(word, b"label") {
-        return;
+    if same(word, b"text") {
+        return tell_check(score::label_reply(file, 511));
     }
-    print_open(file, mem);
-    run_session(word, mem, room);
+    let opened = open_score(mem, file);
+    run_session(word, mem, room, opened)
 }
 
-fn run_part(word: &[u8], long: usize, file: &[u8], size: usize, mem: &mut [u64], room: &mut [u64]) {
-    if word.len() < long {
-        return;
-    }
-    if file.len() < size {
-        return;
-    }
-    let from = 0;
-    run(&word[from..long], &file[from..size], mem, room);
+// The figure has four digits, base 16, so that printing it costs the same in every run.
+fn print(told: Told) {
+    io::print_decimal(OUT, told.number as u64);
+    io::write_all(OUT, b" ");
+    io::print_hex(OUT, told.figure, 4);
+    io::write_all(OUT, b"\n");
 }
 
 fn main() {
-    let mut word = [0u8; 16];
+    let mut word = [0u8; 4];
     let mut file = [0u8; 65536];
     let mut mem = [0u64; MEMORY_SIZE];
     let mut room = [0u64; ROOM_SIZE];
-    let fd = os::open_read(b"largest.bin");
-    let size = io::read_full(fd, &mut file);
-    let long = os::arg(1, &mut word);
-    run_part(&word, long, &file, size, &mut mem, &mut room);
+    os::arg(1, &mut word);
+    let size = io::read_full(os::open_read(b"largest.bin"), &mut file);
+    print(run(&word, &file[..size], &mut mem, &mut room));
 }

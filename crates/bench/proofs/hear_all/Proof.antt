@@ -7,10 +7,10 @@ use Rattle.bench.proofs.hear_all.Statement.{statement}
 use Rattle.bench.proofs.hear_all.Tie as tie
 
 abbrev Inv-loop : tie.InvT-loop
-Inv-loop mem₀ room₀ event₀ mem room event = (length mem ≡ length mem₀) × (length room ≡ length room₀) × (event ≤ 257)
+Inv-loop mem₀ room₀ event₀ mem room event = (length mem ≡ length mem₀) × (length room ≡ length room₀) × (event ≤ 256)
 
 abbrev μ-loop : tie.MeasureT-loop
-μ-loop mem₀ room₀ event₀ mem room event = 257 - event
+μ-loop mem₀ room₀ event₀ mem room event = 256 - event
 
 loop-again : tie.Need-loop-again Inv-loop μ-loop
 loop-again c = search needs
@@ -25,11 +25,12 @@ hear-all-spec =
     Inv-loop
     μ-loop
     (λ c. search needs)
-    (λ c κs. search needs)
-    (λ c κs. search needs)
+    (λ c. search needs)
     (λ c. search needs)
     (λ c. search needs)
     loop-again
+    (λ c. search needs)
+    (λ c. search needs)
     (λ c. search needs)
     (λ c. search needs)
     returns)
