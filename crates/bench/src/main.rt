@@ -19,8 +19,8 @@ struct Told {
     figure: u64,
 }
 
-fn tell_check(v: score::Verdict) -> Told {
-    let r = score::replied(v);
+fn tell_check(v: contents::Verdict) -> Told {
+    let r = contents::replied(v);
     Told {
         number: r.number,
         figure: r.place as u64,

@@ -8,7 +8,7 @@ use native.Mathlib.Omega.{arith}
 use lib.Dec.{eqb}
 use lib.ListN.{length, length-map}
 use Rattle.base.specs.Checks.{Check, fine, refused}
-use Rattle.score.specs.Limits.{mostActions}
+use Rattle.contents.specs.Limits.{mostActions}
 use Rattle.session.specs.declared.Refusal.{Refusal}
 use Rattle.session.specs.Layout.{roomSize}
 use Rattle.session.specs.Replies.{refusalRow}

@@ -9,7 +9,7 @@ use Rattle.base.specs.Tests.{pick}
 use Rattle.page.specs.declared.Item.{Item}
 use Rattle.score.specs.File.{Accepted}
 use Rattle.score.specs.Piece.{decode}
-use Rattle.score.proofs.Ranges.{Ranges, none, more}
+use Rattle.items.proofs.Ranges.{Ranges, none, more}
 use Rattle.rules.specs.Rules.{Reading, readingOf, Outcome, played, dropped, undecided}
 use Rattle.rules.specs.Page.{Cue, cues}
 use Rattle.rules.specs.Written.{Written, written, actionsIn}

@@ -8,9 +8,9 @@ use native.Mathlib.Omega.{arith}
 use lib.ListN.{length, take, drop}
 use denote.Ref.{RefT}
 use Rattle.base.specs.Checks.{Check, fine, refused}
-use Rattle.score.specs.declared.Verdict.{Verdict}
-use Rattle.score.specs.declared.Fault.{Fault}
-use Rattle.score.specs.Replies.{verdictOf}
+use Rattle.contents.specs.declared.Verdict.{Verdict}
+use Rattle.contents.specs.declared.Fault.{Fault}
+use Rattle.contents.specs.Replies.{verdictOf}
 use Rattle.score.specs.File.{checked}
 use Rattle.score.specs.LookUp.{labelReply, labelSpan, granted, Part}
 use Rattle.rules.specs.Terms.{Terms}

@@ -9,15 +9,16 @@ use lib.Dec.{ltb}
 use lib.ListN.{length, getD, List·getD-eq-default}
 use borrow.Author.Tests.{ltb-true, ltb-false}
 use Rattle.base.specs.Checks.{Check, fine, refused, need, firstFault}
-use Rattle.score.specs.declared.Fault.{Fault}
-use Rattle.score.specs.declared.Fault.the-variants.{NoMessage}
-use Rattle.score.specs.Bytes.{part}
-use Rattle.score.specs.Contents.{countsOf}
-use Rattle.score.specs.Messages.{labelAt}
+use Rattle.contents.specs.declared.Fault.{Fault}
+use Rattle.contents.specs.declared.Fault.the-variants.{NoMessage}
+use Rattle.contents.specs.Bytes.{part}
+use Rattle.contents.specs.Contents.{countsOf}
+use Rattle.messages.specs.Messages.{labelAt}
 use Rattle.score.specs.Piece.{decode}
 use Rattle.score.specs.File.{Accepted}
 use Rattle.score.specs.LookUp.{labelReply, labelSpan, labelBytes, granted}
-use Rattle.score.proofs.Decoded.{labels-at, labels-decoded}
+use Rattle.messages.proofs.Decoded.{labels-at}
+use Rattle.score.proofs.Decoded.{labels-decoded}
 
 -- The reply: whether there is such a label.
 unfoldable pub found : List (List ℕ) → ℕ → Check Fault

@@ -11,14 +11,15 @@ use borrow.Author.Tests.{eqb-true}
 use Rattle.page.specs.declared.Item.{Item}
 use Rattle.base.specs.Only.{only}
 use Rattle.base.specs.Tests.{pick}
-use Rattle.score.specs.declared.contents.Counts.{Counts}
-use Rattle.score.specs.declared.items.Setting.{Setting}
-use Rattle.score.specs.Limits.{mostActions}
-use Rattle.score.specs.Items.{ownOf}
+use Rattle.contents.specs.declared.Counts.{Counts}
+use Rattle.contents.specs.Limits.{mostActions}
+use Rattle.items.specs.declared.Setting.{Setting}
+use Rattle.items.specs.Items.{ownOf}
 use Rattle.score.specs.Piece.{decode}
 use Rattle.score.specs.File.{Accepted}
-use Rattle.score.proofs.Walked.{Walked, walked-none, walked-item, accepted-walked, walked-few}
-use Rattle.score.proofs.WalkLaws.{own-action}
+use Rattle.items.proofs.Walked.{Walked, walked-none, walked-item, walked-few}
+use Rattle.items.proofs.WalkLaws.{own-action}
+use Rattle.score.proofs.Accepted.{accepted-walked}
 use Rattle.rules.specs.Words.{synchronyOf, errorOf}
 use Rattle.rules.specs.Score.{Seq, end}
 use Rattle.rules.specs.Rules.{Reading, readingOf, Outcome, played, dropped, undecided, Line, line, Holder as Holds, fateOf, enter, run, perform}

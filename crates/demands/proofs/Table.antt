@@ -5,12 +5,13 @@ use Prim.Native.Nat.{ℕ, _<_}
 use mathlib.Core.List.{List}
 use native.Mathlib.Omega.{arith}
 use Rattle.page.specs.declared.Item.{Item}
-use Rattle.score.specs.declared.contents.Counts.{Counts}
-use Rattle.score.specs.declared.items.Setting.{Setting}
-use Rattle.score.specs.Items.{inOrder, next, inside}
+use Rattle.contents.specs.declared.Counts.{Counts}
+use Rattle.items.specs.declared.Setting.{Setting}
+use Rattle.items.specs.Items.{inOrder, next, inside}
 use Rattle.score.specs.Piece.{decode}
 use Rattle.score.specs.File.{Accepted}
-use Rattle.score.proofs.Walked.{Walked, walked-none, walked-item, accepted-walked}
+use Rattle.items.proofs.Walked.{Walked, walked-none, walked-item}
+use Rattle.score.proofs.Accepted.{accepted-walked}
 use Rattle.rules.specs.Parts.{Standing, no-items}
 use Rattle.rules.proofs.StandingLaws.{top-stands, Inner, no-inner, inner, inner-stands, inner-append}
 

@@ -13,7 +13,7 @@ use Rattle.base.specs.Only.{only}
 use Rattle.page.specs.declared.Item.{Item}
 use Rattle.score.specs.Piece.{decode}
 use Rattle.score.specs.File.{Accepted}
-use Rattle.score.proofs.Ranges.{Ranges, none as noItem, more as moreItems}
+use Rattle.items.proofs.Ranges.{Ranges, none as noItem, more as moreItems}
 use Rattle.rules.specs.Terms.{Terms}
 use Rattle.rules.specs.Rules.{readingOf, Outcome, played, dropped, undecided}
 use Rattle.rules.specs.Page.{Entry, Cue, runLength, entriesOf, entries}

@@ -4,8 +4,8 @@ use mathlib.Core.Bool.{Bool}
 use mathlib.Core.List.{List, [], _∷_, map}
 use lib.ListN.{length}
 use Rattle.base.specs.Checks.{Check, fine, refused}
-use Rattle.score.specs.declared.Reply.{Reply}
-use Rattle.score.specs.Replies.{replyOf, verdictOf}
+use Rattle.contents.specs.declared.Reply.{Reply}
+use Rattle.contents.specs.Replies.{replyOf, verdictOf}
 use Rattle.score.specs.LookUp.{labelReply, labelBytes}
 use Rattle.score.specs.Piece.{decode}
 use Rattle.rules.specs.Terms.{Terms}

@@ -5,7 +5,7 @@ use mathlib.Core.Bool.{true}
 use mathlib.Core.List.{List, [], _∷_}
 use lib.ListN.{length}
 use Rattle.base.specs.Tests.{between}
-use Rattle.score.specs.Replies.{replyOf, verdictOf}
+use Rattle.contents.specs.Replies.{replyOf, verdictOf}
 use Rattle.score.specs.File.{Accepted}
 use Rattle.score.specs.LookUp.{labelReply, labelBytes}
 use Rattle.rules.specs.Terms.{Terms}

@@ -8,18 +8,18 @@ use lib.ListN.{length}
 use Rattle.page.specs.declared.Item.{Item}
 use Rattle.base.proofs.TestLaws.{between-high}
 use Rattle.base.specs.Checks.{fine}
-use Rattle.score.specs.declared.Fault.the-variants.{BadEvent}
-use Rattle.score.specs.Limits.{eventSize, longest}
-use Rattle.score.specs.Contents.{eventsAt}
+use Rattle.contents.specs.declared.Fault.the-variants.{BadEvent}
+use Rattle.contents.specs.Limits.{eventSize, longest}
+use Rattle.contents.specs.Contents.{eventsAt}
+use Rattle.contents.specs.Inner.{Counted}
+use Rattle.items.specs.Ranged.{Ranged}
 use Rattle.score.specs.Events.{eventsRight}
 use Rattle.score.specs.Piece.{Piece, decode}
 use Rattle.score.specs.File.{Accepted}
 use Rattle.score.specs.Encode.{countsIn, Lawful}
-use Rattle.score.specs.Inner.{Counted}
-use Rattle.score.specs.Readers.{Ranged}
 use Rattle.base.proofs.CheckLaws.{first-holds, first-head, first-rest}
-use Rattle.score.proofs.ContentsLaws.{counts-held}
-use Rattle.score.proofs.Ranges.{Ranges, none as noItem, more as moreItems, table-ranges}
+use Rattle.contents.proofs.ContentsLaws.{counts-held}
+use Rattle.items.proofs.Ranges.{Ranges, none as noItem, more as moreItems, table-ranges}
 use Rattle.score.proofs.EncodingFiles.{decode-lawful}
 use Rattle.fates.specs.Fields.{itemIn, itemWord}
 use Rattle.fates.proofs.FieldLaws.{item-kept}

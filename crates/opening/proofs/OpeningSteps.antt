@@ -8,14 +8,14 @@ use lib.ListN.{length}
 use borrow.Author.Needs.{needs}
 use Rattle.base.specs.Checks.{Check, fine, refused, firstFault, renamed}
 use Rattle.base.proofs.CheckLaws.{renamed-pass, renamed-stop, faults}
-use Rattle.score.specs.declared.Fault.{Fault}
-use Rattle.score.specs.declared.Verdict.{Verdict}
-use Rattle.score.specs.declared.Verdict.the-variants.{Fine, Refused as faulty}
-use Rattle.score.specs.Replies.{verdictOf}
-use Rattle.score.specs.Contents.{countsOf}
+use Rattle.contents.specs.declared.Fault.{Fault}
+use Rattle.contents.specs.declared.Verdict.{Verdict}
+use Rattle.contents.specs.declared.Verdict.the-variants.{Fine, Refused as faulty}
+use Rattle.contents.specs.Replies.{verdictOf}
+use Rattle.contents.specs.Contents.{countsOf}
 use Rattle.score.specs.File.{checked, Accepted}
 use Rattle.score.specs.Piece.{decode}
-use Rattle.score.proofs.Verdicts.{verdict-fine, verdict-refused}
+use Rattle.contents.proofs.Verdicts.{verdict-fine, verdict-refused}
 use Rattle.score.proofs.Accepted.{accepted-told}
 use Rattle.score.proofs.Decoded.{events-decoded, items-decoded}
 use Rattle.rules.specs.Terms.{Terms}

@@ -5,7 +5,7 @@ use mathlib.Core.List.{List, [], _∷_}
 use Prim.Native.Nat.{ℕ, zero, suc, _+_, _-_, _*_, _<_, _≤_}
 use native.Mathlib.Omega.{arith}
 use lib.ListN.{length, getD}
-use Rattle.score.specs.Limits.{longest}
+use Rattle.contents.specs.Limits.{longest}
 use Rattle.rules.specs.Score.{total, E}
 use Rattle.opening.specs.Opening.{startsOf}
 

@@ -9,9 +9,10 @@ use lib.ListN.{length, getD, set, drop, drop-of-length-le}
 use lib.Seq.{drop-cons}
 use Rattle.units.specs.declared.Grains.{Grains}
 use Rattle.page.specs.declared.Item.{Item}
-use Rattle.score.specs.Contents.{countsOf}
+use Rattle.contents.specs.Contents.{countsOf}
+use Rattle.items.specs.Ranged.{blank}
 use Rattle.score.specs.Piece.{decode}
-use Rattle.score.specs.Readers.{blank, EventRead, ItemRead}
+use Rattle.score.specs.Readers.{EventRead, ItemRead}
 use Rattle.score.proofs.Decoded.{events-decoded, items-decoded}
 use Rattle.fates.specs.Fields.{itemWord}
 use Rattle.opening.specs.Opening.{withWords, startsOf}

@@ -10,7 +10,7 @@ use lib.ListN.{length}
 use borrow.Author.Needs.{needs}
 use Rattle.base.specs.Checks.{Check, fine, refused}
 use Rattle.ascii.specs.Laying.{Laid}
-use Rattle.score.specs.declared.Reply.{Reply}
+use Rattle.contents.specs.declared.Reply.{Reply}
 use Rattle.session.specs.declared.Refusal.{Refusal}
 use Rattle.session.specs.Layout.{roomSize, mostSent, clockAt, tempoAt, lastAt, wordAt}
 use Rattle.session.specs.Replies.{refusalRow}

@@ -11,17 +11,17 @@ use lib.Dec.{leb, eqb}
 use borrow.Author.Tests.{le-leb, leb-true, leb-false, ne-eqb}
 use Rattle.base.specs.Tests.{pick}
 use Rattle.base.specs.Checks.{Check, fine, refused, need, firstFault}
-use Rattle.score.specs.declared.Fault.{Fault}
-use Rattle.score.specs.declared.Fault.the-variants.{FileShort, BadCount, BadOffset, BadLength, BadEvent, BadItem, BadMessage, TextLeft, NoMessage}
-use Rattle.score.specs.declared.contents.Counts.{Counts}
-use Rattle.score.specs.declared.contents.Offsets.{Offsets}
-use Rattle.score.specs.Limits.{contentsSize}
-use Rattle.score.specs.Bytes.{u16At, u32At}
-use Rattle.score.specs.Contents.{countsOf, offsetsOf, countsRight, offsetsRight, sizeOf}
-use Rattle.score.specs.Inner.{Counted}
+use Rattle.contents.specs.declared.Fault.{Fault}
+use Rattle.contents.specs.declared.Fault.the-variants.{FileShort, BadCount, BadOffset, BadLength, BadEvent, BadItem, BadMessage, TextLeft, NoMessage}
+use Rattle.contents.specs.declared.Counts.{Counts}
+use Rattle.contents.specs.declared.Offsets.{Offsets}
+use Rattle.contents.specs.Limits.{contentsSize}
+use Rattle.contents.specs.Bytes.{u16At, u32At}
+use Rattle.contents.specs.Contents.{countsOf, offsetsOf, countsRight, offsetsRight, sizeOf}
+use Rattle.contents.specs.Inner.{Counted}
+use Rattle.contents.specs.Replies.{faultRow}
 use Rattle.score.specs.File.{checked}
-use Rattle.score.specs.Replies.{faultRow}
-use Rattle.score.proofs.ContentsLaws.{counts-held, offsets-held}
+use Rattle.contents.proofs.ContentsLaws.{counts-held, offsets-held}
 use Rattle.score.proofs.Accepted.{file-sized}
 use Rattle.rules.specs.Terms.{Terms}
 use Rattle.session.specs.declared.Refusal.{Refusal}

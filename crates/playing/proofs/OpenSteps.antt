@@ -12,13 +12,13 @@ use borrow.Author.Needs.{needs}
 use Rattle.base.specs.Tests.{between}
 use Rattle.base.specs.Checks.{Check, fine, refused, need, firstFault, renamed}
 use Rattle.ascii.specs.Laying.{Laid}
-use Rattle.score.specs.declared.Verdict.{Verdict}
-use Rattle.score.specs.declared.Verdict.the-variants.{Fine, Refused as Faulty}
-use Rattle.score.specs.declared.Fault.{Fault}
-use Rattle.score.specs.declared.Fault.the-variants.{FileShort, BadCount, BadOffset, BadLength, BadEvent, BadItem, BadMessage, TextLeft, NoMessage}
+use Rattle.contents.specs.declared.Verdict.{Verdict}
+use Rattle.contents.specs.declared.Verdict.the-variants.{Fine, Refused as Faulty}
+use Rattle.contents.specs.declared.Fault.{Fault}
+use Rattle.contents.specs.declared.Fault.the-variants.{FileShort, BadCount, BadOffset, BadLength, BadEvent, BadItem, BadMessage, TextLeft, NoMessage}
+use Rattle.contents.specs.Replies.{faultRow, verdictOf}
 use Rattle.score.specs.File.{checked, Accepted}
-use Rattle.score.specs.Replies.{faultRow, verdictOf}
-use Rattle.score.proofs.Verdicts.{verdict-fine, verdict-refused}
+use Rattle.contents.proofs.Verdicts.{verdict-fine, verdict-refused}
 use Rattle.rules.specs.Terms.{Terms}
 use Rattle.session.specs.declared.Refusal.{Refusal}
 use Rattle.session.specs.declared.Refusal.the-variants.{MemoryShort, RoomShort, File, BadTempo, NoSession, NoEvent, NotAfter, BadMillis, ClockFull}

@@ -11,7 +11,7 @@ ghost use Rattle.playing.specs.Printed.{carriedOpening};
 ghost use Rattle.playing.specs.Refused.{whyRefused};
 ghost use Rattle.playing.specs.Inner.{Carries};
 use crate::Line;
-use score::Verdict;
+use contents::Verdict;
 use session::Refusal;
 
 // An opening's reply, and whether it was granted.

@@ -7,7 +7,7 @@ use native.Mathlib.Omega.{arith}
 use native.Mathlib.Numerals.{add-one}
 use lib.ListN.{length, getD, drop}
 use lib.Seq.{take-add, drop-drop, drop-cons, take-append-seam, drop-append-seam, getD-drop}
-use Rattle.score.specs.Bytes.{byteAt, u16At, u32At, part}
+use Rattle.contents.specs.Bytes.{byteAt, u16At, u32At, part}
 use Rattle.score.specs.Encode.{le16, le32}
 
 -- ---- parts of a list

@@ -11,21 +11,25 @@ use borrow.Author.Tests.{eqb-true}
 use Rattle.base.specs.Tests.{every}
 use Rattle.base.specs.Checks.{fine}
 use Rattle.base.proofs.CheckLaws.{need-fine}
-use Rattle.score.specs.declared.Fault.the-variants.{TextLeft}
-use Rattle.score.specs.declared.contents.Counts.{Counts}
-use Rattle.score.specs.Limits.{eventSize, itemSize, messageSize}
-use Rattle.score.specs.Bytes.{u16At, part}
-use Rattle.score.specs.Contents.{offsetsOf, countsOf, eventsAt, itemsAt, messagesAt, textAt, sizeOf}
+use Rattle.contents.specs.declared.Fault.the-variants.{TextLeft}
+use Rattle.contents.specs.declared.Counts.{Counts}
+use Rattle.contents.specs.Limits.{eventSize, itemSize, messageSize}
+use Rattle.contents.specs.Bytes.{u16At, part}
+use Rattle.contents.specs.Contents.{offsetsOf, countsOf, eventsAt, itemsAt, messagesAt, textAt, sizeOf}
+use Rattle.items.specs.Items.{itemAt, itemsFrom}
+use Rattle.messages.specs.Messages.{readable, labelAt, labelsAt, messagesRight}
 use Rattle.score.specs.Events.{durationsAt}
-use Rattle.score.specs.Items.{itemAt, itemsFrom}
-use Rattle.score.specs.Messages.{readable, labelAt, labelsAt, messagesRight}
 use Rattle.score.specs.Piece.{decode}
 use Rattle.score.specs.File.{Accepted}
 use Rattle.score.specs.Encode.{le16, le32, contentsBytes, durationBytes, itemBytes, entryBytes, textBytes, countsIn, encode, labelsRight, Lawful}
+use Rattle.contents.proofs.PartLaws.{part-length}
+use Rattle.contents.proofs.ContentsLaws.{RightOffsets, offsets-held}
+use Rattle.items.proofs.Decoded.{items-length}
+use Rattle.messages.proofs.Decoded.{labels-length}
+use Rattle.messages.proofs.Entries.{Entry, entry-first, entries-rest}
 use Rattle.score.proofs.EncodingBytes.{part-add, part-none, part-four, le16-part, le32-part}
-use Rattle.score.proofs.Decoded.{durations-length, items-length, labels-length, part-length}
-use Rattle.score.proofs.ContentsLaws.{RightOffsets, offsets-held}
-use Rattle.score.proofs.Accepted.{file-long, file-counts, file-offsets, file-sized, file-events, file-items, file-messages, Entry, entry-first, entries-rest}
+use Rattle.score.proofs.Decoded.{durations-length}
+use Rattle.score.proofs.Accepted.{file-long, file-counts, file-offsets, file-sized, file-events, file-items, file-messages}
 
 -- ---- a file in parts
 

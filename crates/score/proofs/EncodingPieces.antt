@@ -12,20 +12,20 @@ use Rattle.page.specs.declared.Item.{Item}
 use Rattle.base.specs.Checks.{fine, need, firstFault}
 use Rattle.base.proofs.TestLaws.{every-head, every-rest, between-high}
 use Rattle.base.proofs.CheckLaws.{first-head, first-rest, first-holds}
-use Rattle.score.specs.declared.Fault.the-variants.{BadEvent}
-use Rattle.score.specs.declared.contents.Counts.{Counts}
-use Rattle.score.specs.Limits.{contentsSize, eventSize, itemSize, messageSize, longest, longestLabel, mostText}
-use Rattle.score.specs.Contents.{offsetsOf, countsOf, countsRight, offsetsRight, eventsAt, itemsAt, messagesAt, textAt, sizeOf}
+use Rattle.contents.specs.declared.Fault.the-variants.{BadEvent}
+use Rattle.contents.specs.declared.Counts.{Counts}
+use Rattle.contents.specs.Limits.{contentsSize, eventSize, itemSize, messageSize, longest, longestLabel, mostText}
+use Rattle.contents.specs.Contents.{offsetsOf, countsOf, countsRight, offsetsRight, eventsAt, itemsAt, messagesAt, textAt, sizeOf}
+use Rattle.contents.specs.Inner.{Counted}
+use Rattle.items.specs.Items.{itemsFrom}
+use Rattle.messages.specs.Messages.{labelByte, readable, labelsAt, messagesRight}
 use Rattle.score.specs.Events.{durationsAt, eventsRight}
-use Rattle.score.specs.Items.{itemsFrom}
-use Rattle.score.specs.Messages.{labelByte, readable, labelsAt, messagesRight}
 use Rattle.score.specs.Piece.{Piece, decode}
 use Rattle.score.specs.File.{bodiesRight, checked, Accepted}
 use Rattle.score.specs.Encode.{le16, le32, contentsBytes, durationBytes, itemBytes, entryBytes, textBytes, countsIn, encode, labelsRight, Lawful}
-use Rattle.score.specs.Inner.{Counted}
+use Rattle.contents.proofs.ContentsLaws.{counts-held}
+use Rattle.items.proofs.Ranges.{Ranges, none, more, table-ranges}
 use Rattle.score.proofs.EncodingBytes.{Bytes, empty, byte, bytes-append, bytes-at, le16-bytes, le32-bytes, le32-length, drop-on}
-use Rattle.score.proofs.ContentsLaws.{counts-held}
-use Rattle.score.proofs.Ranges.{Ranges, none, more, table-ranges}
 use Rattle.score.proofs.EncodingFiles.{encode-decode}
 use Rattle.score.proofs.EncodingReads.{Entries, offsetsIn, durations-read, items-read, labels-read, messages-right, counts-read, offsets-read, contents-rest}
 

@@ -12,20 +12,20 @@ use Rattle.base.specs.Tests.{every, between}
 use Rattle.base.specs.Checks.{fine, need, firstFault}
 use Rattle.base.proofs.TestLaws.{every-head, every-rest, between-high}
 use Rattle.base.proofs.CheckLaws.{first-head, first-rest, first-holds}
-use Rattle.score.specs.declared.Fault.the-variants.{BadEvent}
-use Rattle.score.specs.declared.contents.Counts.{Counts}
-use Rattle.score.specs.declared.contents.Offsets.{Offsets}
-use Rattle.score.specs.Limits.{contentsSize, eventSize, itemSize, messageSize, longest, longestLabel, mostText}
-use Rattle.score.specs.Bytes.{byteAt, u16At, u32At, part}
-use Rattle.score.specs.Contents.{offsetsOf, countsOf, eventsAt, itemsAt, messagesAt, textAt}
+use Rattle.contents.specs.declared.Fault.the-variants.{BadEvent}
+use Rattle.contents.specs.declared.Counts.{Counts}
+use Rattle.contents.specs.declared.Offsets.{Offsets}
+use Rattle.contents.specs.Limits.{contentsSize, eventSize, itemSize, messageSize, longest, longestLabel, mostText}
+use Rattle.contents.specs.Bytes.{byteAt, u16At, u32At, part}
+use Rattle.contents.specs.Contents.{offsetsOf, countsOf, eventsAt, itemsAt, messagesAt, textAt}
+use Rattle.contents.specs.Inner.{Counted}
+use Rattle.items.specs.Items.{itemAt, itemsFrom}
+use Rattle.items.specs.Ranged.{Ranged}
+use Rattle.messages.specs.Messages.{readable, labelAt, labelsAt, messageRight, messagesRight}
 use Rattle.score.specs.Events.{durationsAt, eventsRight}
-use Rattle.score.specs.Items.{itemAt, itemsFrom}
-use Rattle.score.specs.Messages.{readable, labelAt, labelsAt, messageRight, messagesRight}
 use Rattle.score.specs.Encode.{le16, le32, contentsBytes, durationBytes, itemBytes, entryBytes, textBytes, labelsRight}
-use Rattle.score.specs.Readers.{Ranged}
-use Rattle.score.specs.Inner.{Counted}
+use Rattle.items.proofs.Ranges.{Ranges, none, more}
 use Rattle.score.proofs.EncodingBytes.{drop-on, part-read, byte-read, byte-first, u16-on, u16-read, u32-on, u32-read}
-use Rattle.score.proofs.Ranges.{Ranges, none, more}
 
 -- ---- the durations
 

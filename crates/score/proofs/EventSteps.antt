@@ -7,14 +7,14 @@ use borrow.Author.Needs.{needs}
 use Rattle.base.specs.Tests.{between}
 use Rattle.base.specs.Checks.{Check, need, firstFault}
 use Rattle.base.proofs.TestLaws.{between-in, between-under, between-over}
-use Rattle.score.specs.declared.Fault.{Fault}
-use Rattle.score.specs.declared.Verdict.the-variants.{Fine, Refused}
-use Rattle.score.specs.declared.Fault.the-variants.{BadEvent}
-use Rattle.score.specs.Limits.{eventSize, longest}
-use Rattle.score.specs.Bytes.{u32At}
-use Rattle.score.specs.Replies.{verdictOf}
+use Rattle.contents.specs.declared.Fault.{Fault}
+use Rattle.contents.specs.declared.Verdict.the-variants.{Fine, Refused}
+use Rattle.contents.specs.declared.Fault.the-variants.{BadEvent}
+use Rattle.contents.specs.Limits.{eventSize, longest}
+use Rattle.contents.specs.Bytes.{u32At}
+use Rattle.contents.specs.Replies.{verdictOf}
 use Rattle.score.specs.Events.{durationsAt, eventsRight}
-use Rattle.score.proofs.Verdicts.{verdict-stop, check-next}
+use Rattle.contents.proofs.Verdicts.{verdict-stop, check-next}
 use Rattle.score.proofs.Decoded.{durations-none, durations-more}
 
 -- what the events from at on are found to be

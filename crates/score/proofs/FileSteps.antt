@@ -7,40 +7,20 @@ use lib.ListN.{length}
 use borrow.Author.Tests.{le-leb, lt-leb}
 use borrow.Author.Needs.{needs}
 use Rattle.base.specs.Checks.{firstFault}
-use Rattle.score.specs.declared.Verdict.{Verdict}
-use Rattle.score.specs.declared.Verdict.the-variants.{Fine, Refused}
-use Rattle.score.specs.declared.Fault.{Fault}
-use Rattle.score.specs.declared.Fault.the-variants.{FileShort}
-use Rattle.score.specs.declared.walk.Walk.{Walk}
-use Rattle.score.specs.declared.walk.Walk.the-variants.{Actions, Stop}
-use Rattle.score.specs.declared.contents.Counts.{Counts}
-use Rattle.score.specs.Limits.{contentsSize}
-use Rattle.score.specs.Replies.{verdictOf}
-use Rattle.score.specs.Contents.{countsOf, offsetsOf, countsRight, offsetsRight, eventsAt, itemsAt, messagesAt}
+use Rattle.contents.specs.declared.Verdict.{Verdict}
+use Rattle.contents.specs.declared.Verdict.the-variants.{Refused}
+use Rattle.contents.specs.declared.Fault.the-variants.{FileShort}
+use Rattle.contents.specs.declared.Counts.{Counts}
+use Rattle.contents.specs.Limits.{contentsSize}
+use Rattle.contents.specs.Replies.{verdictOf}
+use Rattle.contents.specs.Contents.{countsOf, offsetsOf, countsRight, offsetsRight, eventsAt, itemsAt, messagesAt}
+use Rattle.items.specs.Items.{itemsFrom, itemsRight}
+use Rattle.messages.specs.Messages.{messagesRight}
 use Rattle.score.specs.Events.{durationsAt, eventsRight}
-use Rattle.score.specs.Items.{itemsFrom, walked, outset, walkFault, itemsRight}
-use Rattle.score.specs.Messages.{messagesRight}
 use Rattle.score.specs.Piece.{decode}
 use Rattle.score.specs.File.{bodiesRight, checked}
-use Rattle.score.proofs.Verdicts.{verdict-pass, verdict-stop, told-last, told-fine, told-fault}
-use Rattle.score.proofs.ContentsLaws.{counts-told, sized-told}
-
--- ---- the items: how the walk ended, from where the table was computed to start
-
-module _ (f : List ℕ) (c : Counts) (w : Walk) (at : ℕ) (here : at ≡ itemsAt c) (walk : w ≡ walked c at (itemsFrom f at (c .items)) outset 0) where
-  found : walkFault w ≡ itemsRight c (itemsFrom f (itemsAt c) (c .items))
-  unfolding itemsRight
-  found = rw (← here, walk)
-
-  pub items-fine : (n : ℕ) → w ≡ Actions n → Fine ≡ verdictOf (itemsRight c (itemsFrom f (itemsAt c) (c .items)))
-  unfolding verdictOf walkFault
-  items-fine n e = rw (← found, e)
-
-  pub items-fault : (x : Fault) → w ≡ Stop x → Refused x ≡ verdictOf (itemsRight c (itemsFrom f (itemsAt c) (c .items)))
-  unfolding verdictOf walkFault
-  items-fault x e = rw (← found, e)
-
-pub ruleset ends = (items-fine, items-fault, needs)
+use Rattle.contents.proofs.Verdicts.{verdict-pass, verdict-stop, told-last, told-fine, told-fault}
+use Rattle.contents.proofs.ContentsLaws.{counts-told, sized-told}
 
 -- ---- the bodies, read with the counts that the contents give
 

@@ -2,7 +2,7 @@
 -- Every entry of a right table lies within the text and is not empty. Assumes nothing.
 use mathlib.Core.Path.{_≡_, refl, sym, _∙_}
 use mathlib.Core.List.{List, []}
-use Prim.Native.Nat.{ℕ, zero, suc, _+_, _-_, _*_, _<_, _≤_}
+use Prim.Native.Nat.{ℕ, _+_, _-_, _*_, _<_, _≤_}
 use native.Mathlib.Omega.{arith}
 use lib.ListN.{length, getD}
 use borrow.Author.Tests.{le-ltb, lt-ltb, ltb-true}
@@ -12,36 +12,26 @@ use denote.Ref.{RefT}
 use Rattle.base.specs.Checks.{Check, fine, refused, need, firstFault}
 use Rattle.base.proofs.TestLaws.{between-low, between-high}
 use Rattle.base.proofs.CheckLaws.{first-head, first-rest, first-holds}
-use Rattle.score.specs.declared.Verdict.{Verdict}
-use Rattle.score.specs.declared.Verdict.the-variants.{Fine, Refused}
-use Rattle.score.specs.declared.Fault.{Fault}
-use Rattle.score.specs.declared.Fault.the-variants.{NoMessage}
-use Rattle.score.specs.declared.contents.Counts.{Counts}
+use Rattle.contents.specs.declared.Verdict.{Verdict}
+use Rattle.contents.specs.declared.Verdict.the-variants.{Fine, Refused}
+use Rattle.contents.specs.declared.Fault.{Fault}
+use Rattle.contents.specs.declared.Fault.the-variants.{NoMessage}
+use Rattle.contents.specs.declared.Counts.{Counts}
+use Rattle.contents.specs.Limits.{contentsSize, messageSize, longestLabel}
+use Rattle.contents.specs.Bytes.{u16At, part}
+use Rattle.contents.specs.Replies.{verdictOf}
+use Rattle.contents.specs.Contents.{countsOf, messagesAt, textAt, sizeOf}
+use Rattle.messages.specs.Messages.{labelAt}
 use Rattle.score.specs.declared.look_up.Span.{Span}
-use Rattle.score.specs.Limits.{contentsSize, messageSize, longestLabel}
-use Rattle.score.specs.Bytes.{u16At, part}
-use Rattle.score.specs.Replies.{verdictOf}
-use Rattle.score.specs.Contents.{countsOf, messagesAt, textAt, sizeOf}
-use Rattle.score.specs.Messages.{labelAt, messagesRight}
 use Rattle.score.specs.Piece.{decode}
 use Rattle.score.specs.File.{checked, Accepted}
 use Rattle.score.specs.LookUp.{labelReply, granted, labelSpan, Part}
 use Rattle.score.specs.Inner.{Granted}
-use Rattle.score.proofs.Verdicts.{verdict-fine, verdict-refused, verdict-end, verdict-pass, verdict-stop, told-fine, told-fault}
-use Rattle.score.proofs.Decoded.{labels-at, part-length}
-use Rattle.score.proofs.Accepted.{accepted-told, file-long, file-sized, file-messages, Entry, entry-first, entries-rest}
-
--- ---- an entry of a right table
-
-nth-entry : (f : List ℕ) (c : Counts) (n k at from : ℕ) → messagesRight f c at k from ≡ fine → n < k → Entry f c (at + messageSize * n) (u16At f (at + messageSize * n))
-nth-entry f c n zero at from e p = absurd (omega arith)
-nth-entry f c zero (suc k) at from e p =
-    let z : at + messageSize * 0 ≡ at = omega arith in
-    let r = entry-first f c at from k e in
-    rw (z, r .start) r
-nth-entry f c (suc n) (suc k) at from e p =
-    let z : at + messageSize * suc n ≡ at + messageSize + messageSize * n = omega arith in
-    rw z (nth-entry f c n k (at + messageSize) (from + u16At f (at + 2)) (entries-rest f c at from k e) (omega arith))
+use Rattle.contents.proofs.Verdicts.{verdict-refused, verdict-end, verdict-pass, verdict-stop, told-fine, told-fault}
+use Rattle.contents.proofs.PartLaws.{part-length}
+use Rattle.messages.proofs.Decoded.{labels-at}
+use Rattle.messages.proofs.Entries.{Entry, nth-entry}
+use Rattle.score.proofs.Accepted.{accepted-told, file-long, file-sized, file-messages}
 
 -- ---- a granted look-up
 

@@ -1,25 +1,32 @@
 -- What the readers lean on: where an event and an item of an accepted file stand, and that what is read there is what the file says.
 -- Assumes nothing.
 use mathlib.Core.Path.{_≡_, sym, _∙_}
-use mathlib.Core.List.{List}
-use Prim.Native.Nat.{ℕ, _+_, _*_, _<_, _≤_}
+use mathlib.Core.Bool.{true}
+use mathlib.Core.List.{List, [], _∷_}
+use Prim.Native.Nat.{ℕ, zero, suc, _+_, _*_, _<_, _≤_}
 use native.Mathlib.Omega.{arith}
 use lib.ListN.{length, getD}
 use borrow.Author.Needs.{needs}
 use Rattle.page.specs.declared.Item.{Item}
+use Rattle.base.specs.Tests.{between}
+use Rattle.base.specs.Checks.{fine}
 use Rattle.base.proofs.TestLaws.{between-low, between-high}
-use Rattle.score.specs.declared.contents.Counts.{Counts}
-use Rattle.score.specs.Limits.{eventSize, itemSize, mostEvents, mostItems}
-use Rattle.score.specs.Bytes.{u32At}
-use Rattle.score.specs.Contents.{countsOf, eventsAt, itemsAt, sizeOf}
-use Rattle.score.specs.Items.{itemAt}
+use Rattle.base.proofs.CheckLaws.{first-head, first-rest, first-holds}
+use Rattle.contents.specs.declared.Counts.{Counts}
+use Rattle.contents.specs.Limits.{eventSize, itemSize, longest, mostEvents, mostItems}
+use Rattle.contents.specs.Bytes.{u32At}
+use Rattle.contents.specs.Contents.{countsOf, eventsAt, itemsAt, sizeOf}
+use Rattle.contents.specs.Inner.{Counted}
+use Rattle.items.specs.Items.{itemAt}
+use Rattle.items.specs.Ranged.{blank}
+use Rattle.score.specs.Events.{eventsRight}
 use Rattle.score.specs.Piece.{decode}
 use Rattle.score.specs.File.{Accepted}
-use Rattle.score.specs.Readers.{EventIn, EventRead, ItemIn, ItemRead, blank}
-use Rattle.score.specs.Inner.{Counted}
-use Rattle.score.proofs.Decoded.{durations-at, items-at, events-decoded, items-decoded}
+use Rattle.score.specs.Readers.{EventIn, EventRead, ItemIn, ItemRead}
+use Rattle.items.proofs.Decoded.{items-at}
+use Rattle.items.proofs.Ranges.{items-ranged}
+use Rattle.score.proofs.Decoded.{durations-at, events-decoded, items-decoded}
 use Rattle.score.proofs.Accepted.{file-long, file-sized, file-events, file-items}
-use Rattle.score.proofs.Ranges.{duration-ranged, items-ranged}
 
 -- ---- counts
 
@@ -34,6 +41,13 @@ module _ (f : List ℕ) (c : Counts) (accepted : Accepted f) (e : c ≡ countsOf
   items-read = (rw e, counted-read .items)
 
 -- ---- events
+
+-- each duration of right events, wherever it stands
+duration-ranged : (at : ℕ) (ds : List ℕ) (k : ℕ) → eventsRight at ds ≡ fine → k < length ds → between 1 longest (getD ds k 0) ≡ true
+unfolding eventsRight
+duration-ranged at [] k e lt = absurd (omega arith)
+duration-ranged at (d ∷ ds) zero e lt = first-holds _ _ _ e
+duration-ranged at (d ∷ ds) (suc k) e lt = duration-ranged (at + eventSize) ds k (first-head _ _ (first-rest _ _ e)) (omega arith)
 
 module _ (f : List ℕ) (k : ℕ) (asked : EventIn f k) where
   pub event-within : eventsAt + eventSize * k + eventSize ≤ length f

@@ -7,12 +7,12 @@ use lib.ListN.{length}
 use Rattle.page.specs.declared.Item.{Item}
 use Rattle.base.specs.Tests.{every, between}
 use Rattle.base.specs.Checks.{fine}
-use Rattle.score.specs.declared.contents.Counts.{Counts}
-use Rattle.score.specs.Limits.{longestLabel}
-use Rattle.score.specs.Contents.{countsRight, eventsAt, itemsAt, messagesAt, textAt}
+use Rattle.contents.specs.declared.Counts.{Counts}
+use Rattle.contents.specs.Limits.{longestLabel}
+use Rattle.contents.specs.Contents.{countsRight, eventsAt, itemsAt, messagesAt, textAt}
+use Rattle.items.specs.Items.{itemsRight}
+use Rattle.messages.specs.Messages.{readable}
 use Rattle.score.specs.Events.{eventsRight}
-use Rattle.score.specs.Items.{itemsRight}
-use Rattle.score.specs.Messages.{readable}
 use Rattle.score.specs.Piece.{Piece}
 
 -- "Little-endian"

@@ -3,10 +3,10 @@ use Prim.Native.Nat.{ℕ, zero, suc, _+_}
 use mathlib.Core.List.{List, [], _∷_}
 use Rattle.base.specs.Tests.{between}
 use Rattle.base.specs.Checks.{Check, fine, need, firstFault}
-use Rattle.score.specs.declared.Fault.{Fault}
-use Rattle.score.specs.declared.Fault.the-variants.{BadEvent}
-use Rattle.score.specs.Limits.{eventSize, longest}
-use Rattle.score.specs.Bytes.{u32At}
+use Rattle.contents.specs.declared.Fault.{Fault}
+use Rattle.contents.specs.declared.Fault.the-variants.{BadEvent}
+use Rattle.contents.specs.Limits.{eventSize, longest}
+use Rattle.contents.specs.Bytes.{u32At}
 
 -- The durations of the count events from the byte at on.
 unfoldable pub durationsAt : List ℕ → ℕ → ℕ → List ℕ

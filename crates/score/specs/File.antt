@@ -5,14 +5,14 @@ use mathlib.Core.List.{List, [], _∷_}
 use lib.ListN.{length}
 use lib.Dec.{leb}
 use Rattle.base.specs.Checks.{Check, fine, need, firstFault}
-use Rattle.score.specs.declared.Fault.{Fault}
-use Rattle.score.specs.declared.Fault.the-variants.{FileShort}
-use Rattle.score.specs.declared.contents.Counts.{Counts}
-use Rattle.score.specs.Limits.{contentsSize}
-use Rattle.score.specs.Contents.{offsetsOf, countsOf, countsRight, offsetsRight, eventsAt, messagesAt}
+use Rattle.contents.specs.declared.Fault.{Fault}
+use Rattle.contents.specs.declared.Fault.the-variants.{FileShort}
+use Rattle.contents.specs.declared.Counts.{Counts}
+use Rattle.contents.specs.Limits.{contentsSize}
+use Rattle.contents.specs.Contents.{offsetsOf, countsOf, countsRight, offsetsRight, eventsAt, messagesAt}
+use Rattle.items.specs.Items.{itemsRight}
+use Rattle.messages.specs.Messages.{messagesRight}
 use Rattle.score.specs.Events.{eventsRight}
-use Rattle.score.specs.Items.{itemsRight}
-use Rattle.score.specs.Messages.{messagesRight}
 use Rattle.score.specs.Piece.{decode}
 
 unfoldable pub bodiesRight : List ℕ → Counts → Check Fault

@@ -1,11 +1,5 @@
--- What a score file is, when it is accepted, and what the replies about it say: document 01's sections 'The score file' and 'Replies', in their order.
-pub mod Limits
-pub mod Bytes
-pub mod Replies
-pub mod Contents
+-- What a score file is, when it is accepted, and what is read and looked up in it: document 01's section 'The score file', by its three parts.
 pub mod Events
-pub mod Items
-pub mod Messages
 pub mod Piece
 pub mod File
 pub mod LookUp

@@ -6,12 +6,12 @@ use lib.ListN.{take, drop}
 use lib.Dec.{ltb}
 use denote.Ref.{RefT}
 use Rattle.base.specs.Checks.{Check, fine, refused, need, firstFault}
-use Rattle.score.specs.declared.Fault.{Fault}
-use Rattle.score.specs.declared.Fault.the-variants.{NoMessage}
+use Rattle.contents.specs.declared.Fault.{Fault}
+use Rattle.contents.specs.declared.Fault.the-variants.{NoMessage}
+use Rattle.contents.specs.Limits.{messageSize}
+use Rattle.contents.specs.Bytes.{u16At}
+use Rattle.contents.specs.Contents.{countsOf, messagesAt, textAt}
 use Rattle.score.specs.declared.look_up.Span.{Span}
-use Rattle.score.specs.Limits.{messageSize}
-use Rattle.score.specs.Bytes.{u16At}
-use Rattle.score.specs.Contents.{countsOf, messagesAt, textAt}
 use Rattle.score.specs.File.{checked}
 
 -- "Text look-up: the file check, 15." 15: "no such message"

@@ -2,10 +2,10 @@
 use Prim.Native.Nat.{ℕ}
 use mathlib.Core.List.{List}
 use Rattle.page.specs.declared.Item.{Item}
-use Rattle.score.specs.Contents.{countsOf, eventsAt, itemsAt, messagesAt}
+use Rattle.contents.specs.Contents.{countsOf, eventsAt, itemsAt, messagesAt}
+use Rattle.items.specs.Items.{itemsFrom}
+use Rattle.messages.specs.Messages.{labelsAt}
 use Rattle.score.specs.Events.{durationsAt}
-use Rattle.score.specs.Items.{itemsFrom}
-use Rattle.score.specs.Messages.{labelsAt}
 
 -- The durations of the events in grains, the items, and the labels of the messages. "Page place means position in the item table."
 pub record Piece : Type 0 where

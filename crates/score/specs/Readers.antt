@@ -5,8 +5,9 @@ use mathlib.Core.List.{List}
 use lib.ListN.{getD}
 use Rattle.units.specs.declared.Grains.{Grains}
 use Rattle.page.specs.declared.Item.{Item}
-use Rattle.score.specs.Limits.{longest, lastPart, mostEvents, mostItems}
-use Rattle.score.specs.Contents.{countsOf}
+use Rattle.contents.specs.Limits.{longest}
+use Rattle.contents.specs.Contents.{countsOf}
+use Rattle.items.specs.Ranged.{Ranged, blank}
 use Rattle.score.specs.Piece.{decode}
 use Rattle.score.specs.File.{Accepted}
 
@@ -22,20 +23,6 @@ pub record EventRead (f : List ℕ) (k : ℕ) (r : Grains) : Type 0 where
 pub record ItemIn (f : List ℕ) (p : ℕ) : Type 0 where
   pub accepted : Accepted f
   pub below : p < countsOf f .items
-
--- Every field within its range, so that an item fits one word.
-pub record Ranged (i : Item) : Type 0 where
-  pub kind : i .kind ≤ 1
-  pub synchrony : i .synchrony ≤ 1
-  pub error : i .error ≤ 3
-  pub part : i .part ≤ lastPart
-  pub delay : i .delay .0 ≤ longest
-  pub event : i .event ≤ mostEvents
-  pub last : i .last < mostItems
-
--- Where a list has no item. No reader hands it out.
-abbrev pub blank : Item
-blank = record { kind = 0; synchrony = 0; error = 0; part = 0; delay = record { 0 = 0 }; event = 0; last = 0 }
 
 pub record ItemRead (f : List ℕ) (p : ℕ) (r : Item) : Type 0 where
   pub read : r ≡ getD (decode f .items) p blank

@@ -1,13 +1,13 @@
 // The bodies of a file whose contents are right: "6, 7 and 8 over the file from front to back".
 ghost use mathlib.Core.Path.{_≡_};
-ghost use Rattle.score.specs.Replies.{verdictOf};
+ghost use Rattle.contents.specs.Replies.{verdictOf};
+ghost use Rattle.contents.specs.Inner.{RightContents};
 ghost use Rattle.score.specs.File.{bodiesRight};
-ghost use Rattle.score.specs.Inner.{RightContents};
-use crate::Verdict;
-use crate::contents::Counts;
 use crate::events::check_events;
-use crate::messages::check_messages;
-use crate::walk::check_items;
+use contents::Counts;
+use contents::Verdict;
+use items::check_items;
+use messages::check_messages;
 
 pub fn check_bodies(file: &[u8], c: Counts) -> Verdict
     requires { ⌜ RightContents (now file) c ⌝ }

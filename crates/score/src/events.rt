@@ -1,17 +1,17 @@
 // "Event: 4 bytes, its duration in grains, 1 to 5,040,000."
 ghost use mathlib.Core.Path.{_≡_};
 ghost use lib.ListN.{length};
-ghost use Rattle.score.specs.Replies.{verdictOf};
-ghost use Rattle.score.specs.Contents.{eventsAt};
+ghost use Rattle.contents.specs.Replies.{verdictOf};
+ghost use Rattle.contents.specs.Contents.{eventsAt};
+ghost use Rattle.contents.specs.Inner.{Sized};
 ghost use Rattle.score.specs.Events.{durationsAt, eventsRight};
-ghost use Rattle.score.specs.Inner.{Sized};
-use crate::Fault;
-use crate::Verdict;
-use crate::bytes::read32;
-use crate::contents::Counts;
-use crate::limits::CONTENTS_SIZE;
-use crate::limits::EVENT_SIZE;
-use crate::limits::LONGEST;
+use contents::Counts;
+use contents::Fault;
+use contents::Verdict;
+use contents::bytes::read32;
+use contents::limits::CONTENTS_SIZE;
+use contents::limits::EVENT_SIZE;
+use contents::limits::LONGEST;
 
 pub fn check_events(file: &[u8], c: Counts) -> Verdict
     requires { ⌜ Sized c (length (now file)) ⌝ }

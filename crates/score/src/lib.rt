@@ -1,72 +1,32 @@
 // The score file: whether one is right and where the first fault is, what it says, and the labels of its messages.
 ghost use mathlib.Core.Path.{_≡_};
 ghost use Prim.Native.Nat.{_≤_, _<_};
-ghost use Rattle.score.specs.Limits.{mostEvents, mostItems};
-ghost use Rattle.score.specs.Replies.{replyOf, verdictOf};
-ghost use Rattle.score.specs.Contents.{countsOf};
+ghost use Rattle.contents.specs.Limits.{mostEvents, mostItems};
+ghost use Rattle.contents.specs.Replies.{verdictOf};
+ghost use Rattle.contents.specs.Contents.{countsOf};
 ghost use Rattle.score.specs.File.{checked, Accepted};
 ghost use Rattle.score.specs.LookUp.{labelReply, labelSpan, Part};
 ghost use Rattle.score.specs.Readers.{EventIn, ItemIn, EventRead, ItemRead};
 use bodies::check_bodies;
-use bytes::read32;
+use contents::Fault;
+use contents::Verdict;
+use contents::bytes::read32;
 use contents::check_counts;
 use contents::check_layout;
 use contents::items_at;
+use contents::limits::CONTENTS_SIZE;
+use contents::limits::EVENT_SIZE;
+use contents::limits::ITEM_SIZE;
 use contents::read_counts;
 use items::item_at;
-use limits::CONTENTS_SIZE;
-use limits::EVENT_SIZE;
-use limits::ITEM_SIZE;
 use look_up::accepted_span;
 use look_up::label_span;
 use page::Item;
-use replies::fault_row;
 use units::Grains;
 
 mod bodies;
-mod bytes;
-mod contents;
 mod events;
-mod items;
-mod limits;
 mod look_up;
-mod messages;
-mod replies;
-mod walk;
-
-// What can be wrong with a file, and with a message asked of it: one case for each row of the reply table.
-pub enum Fault {
-    // "file under 32 bytes"
-    FileShort,
-    // "a count outside its limits"
-    BadCount(usize),
-    // "an offset not as above"
-    BadOffset(usize),
-    // "offsets right, file length wrong"
-    BadLength,
-    // "an event's duration"
-    BadEvent(usize),
-    // "an item against the rules; also the 1,025th action"
-    BadItem(usize),
-    // "a message entry or its label bytes"
-    BadMessage(usize),
-    // "entries right, text not used up"
-    TextLeft,
-    // "no such message"
-    NoMessage,
-}
-
-// What a check of a file, or of a part of it, finds.
-pub enum Verdict {
-    Fine,
-    Refused(Fault),
-}
-
-// The reply table's number and place.
-pub struct Reply {
-    pub number: usize,
-    pub place: usize,
-}
 
 // The first fault of a file.
 pub fn check_file(file: &[u8]) -> Verdict
@@ -85,19 +45,6 @@ pub fn check_file(file: &[u8]) -> Verdict
         return placed;
     };
     check_bodies(file, c)
-}
-
-// The reply table's number and place for what a check or a look-up found.
-pub fn replied(v: Verdict) -> Reply
-    ensures { λ r. ⌜ r ≡ replyOf v ⌝ }
-{
-    match v {
-        Verdict::Fine => Reply {
-            number: 0,
-            place: 0,
-        },
-        Verdict::Refused(x) => fault_row(x),
-    }
 }
 
 // The text look-up's reply. The number is taken whole, however large.

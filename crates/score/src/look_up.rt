@@ -5,14 +5,14 @@ ghost use lib.ListN.{length};
 ghost use Rattle.score.specs.File.{Accepted};
 ghost use Rattle.score.specs.LookUp.{labelSpan};
 ghost use Rattle.score.specs.Inner.{Granted};
-use crate::Verdict;
-use crate::bytes::read16;
 use crate::check_file;
-use crate::contents::Counts;
-use crate::contents::messages_at;
-use crate::contents::read_counts;
-use crate::contents::text_at;
-use crate::limits::MESSAGE_SIZE;
+use contents::Counts;
+use contents::Verdict;
+use contents::bytes::read16;
+use contents::limits::MESSAGE_SIZE;
+use contents::messages_at;
+use contents::read_counts;
+use contents::text_at;
 
 // Where a label lies in the file.
 pub struct Span {

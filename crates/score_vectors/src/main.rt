@@ -37,8 +37,8 @@ fn print_label(label: &[u8]) {
 }
 
 fn print_vector(name: &[u8], file: &[u8], n: u64) {
-    let checked = score::replied(score::check_file(file));
-    let looked = score::replied(score::label_reply(file, n));
+    let checked = contents::replied(score::check_file(file));
+    let looked = contents::replied(score::label_reply(file, n));
     io::write_all(OUT, name);
     io::write_all(OUT, b" ");
     io::print_decimal(OUT, checked.number as u64);

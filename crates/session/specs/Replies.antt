@@ -1,6 +1,6 @@
 -- The reply table: number and place of every refusal.
-use Rattle.score.specs.declared.Reply.{Reply}
-use Rattle.score.specs.Replies.{faultRow}
+use Rattle.contents.specs.declared.Reply.{Reply}
+use Rattle.contents.specs.Replies.{faultRow}
 use Rattle.session.specs.declared.Refusal.{Refusal}
 use Rattle.session.specs.declared.Refusal.the-variants.{MemoryShort, RoomShort, File, BadTempo, NoSession, NoEvent, NotAfter, BadMillis, ClockFull}
 

@@ -1,5 +1,5 @@
 // A session's words: where each stands, when memory is a session, and why a call is refused.
-use score::Fault;
+use contents::Fault;
 
 // The places are public for programs that forge or inspect memory; a caller of the sequencer needs none of them.
 pub mod layout;

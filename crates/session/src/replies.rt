@@ -2,8 +2,8 @@
 ghost use mathlib.Core.Path.{_≡_};
 ghost use Rattle.session.specs.Replies.{refusalRow};
 use crate::Refusal;
-use score::Reply;
-use score::Verdict;
+use contents::Reply;
+use contents::Verdict;
 
 fn row(number: usize) -> Reply
     ensures { λ r. ⌜ r ≡ record { number = number; place = 0 } ⌝ }
@@ -18,7 +18,7 @@ pub fn refusal_row(x: Refusal) -> Reply
     match x {
         Refusal::MemoryShort => row(1),
         Refusal::RoomShort => row(2),
-        Refusal::File(f) => score::replied(Verdict::Refused(f)),
+        Refusal::File(f) => contents::replied(Verdict::Refused(f)),
         Refusal::BadTempo => row(9),
         Refusal::NoSession => row(10),
         Refusal::NoEvent => row(11),

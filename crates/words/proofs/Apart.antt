@@ -5,8 +5,8 @@ use mathlib.Core.List.{List, [], _∷_, map}
 use Prim.Native.Nat.{ℕ, suc}
 use Rattle.base.specs.Tests.{pick}
 use Rattle.ascii.specs.Words.{begins}
-use Rattle.score.specs.declared.Fault.{Fault}
-use Rattle.score.specs.declared.Fault.the-variants.{FileShort, BadCount, BadOffset, BadLength, BadEvent, BadItem, BadMessage, TextLeft, NoMessage}
+use Rattle.contents.specs.declared.Fault.{Fault}
+use Rattle.contents.specs.declared.Fault.the-variants.{FileShort, BadCount, BadOffset, BadLength, BadEvent, BadItem, BadMessage, TextLeft, NoMessage}
 use Rattle.session.specs.declared.Refusal.{Refusal}
 use Rattle.session.specs.declared.Refusal.the-variants.{MemoryShort, RoomShort, File, BadTempo, NoSession, NoEvent, NotAfter, BadMillis, ClockFull}
 use Rattle.words.specs.Words.{faultWords, refusalWords}

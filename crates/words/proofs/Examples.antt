@@ -3,8 +3,8 @@
 use mathlib.Core.Path.{_≡_, refl}
 use Rattle.base.specs.Tests.{pick}
 use Rattle.ascii.specs.Decimals.{digitsOf, decimal}
-use Rattle.score.specs.Replies.{faultRow}
-use Rattle.score.specs.declared.Fault.the-variants.{FileShort, BadOffset, BadLength, BadItem, TextLeft}
+use Rattle.contents.specs.Replies.{faultRow}
+use Rattle.contents.specs.declared.Fault.the-variants.{FileShort, BadOffset, BadLength, BadItem, TextLeft}
 use Rattle.session.specs.Replies.{refusalRow}
 use Rattle.session.specs.declared.Refusal.the-variants.{File, BadTempo}
 use Rattle.ascii.specs.Text.{bytesOf}

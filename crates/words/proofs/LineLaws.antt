@@ -12,7 +12,7 @@ use Rattle.ascii.specs.Words.{newline}
 use Rattle.ascii.specs.Decimals.{decimal}
 use Rattle.ascii.specs.Laying.{Laid}
 use Rattle.ascii.proofs.LayLaws.{laid-join}
-use Rattle.score.specs.declared.Reply.{Reply}
+use Rattle.contents.specs.declared.Reply.{Reply}
 use Rattle.session.specs.declared.Refusal.{Refusal}
 use Rattle.session.specs.Replies.{refusalRow}
 use Rattle.ascii.specs.Text.{bytesOf}

@@ -5,7 +5,7 @@ ghost use lib.ListN.{length};
 ghost use Rattle.ascii.specs.Laying.{Laid};
 ghost use Rattle.words.specs.Words.{faultWords, refusalWords, mostWords, faultPlaced, placed};
 use ascii::put_bytes;
-use score::Fault;
+use contents::Fault;
 use session::Refusal;
 
 // The words of a fault behind the first `at` bytes. Answers where the next byte goes.

@@ -13,10 +13,10 @@ use borrow.Author.Tests.{eqb-true, eqb-false}
 use Rattle.page.specs.declared.Item.{Item}
 use Rattle.base.specs.Only.{only}
 use Rattle.base.specs.Tests.{pick, every}
-use Rattle.score.specs.Contents.{countsOf}
+use Rattle.contents.specs.Contents.{countsOf}
 use Rattle.score.specs.Piece.{decode}
 use Rattle.score.specs.File.{Accepted}
-use Rattle.score.proofs.WalkLaws.{within-action, within-group}
+use Rattle.items.proofs.WalkLaws.{within-action, within-group}
 use Rattle.rules.specs.Score.{end}
 use Rattle.rules.specs.Page.{levels, sequenceOf, Entry, entriesOf, entries}
 use Rattle.rules.specs.Written.{Written, written, actionsOf, actionsOn}

@@ -9,8 +9,8 @@ use native.Mathlib.Nat.{le-trans}
 use lib.Dec.{eqb}
 use lib.ListN.{length, take, drop, take-append-drop}
 use Rattle.page.specs.declared.Item.{Item}
-use Rattle.score.specs.Limits.{longest}
-use Rattle.score.proofs.Ranges.{Ranges, none, more}
+use Rattle.contents.specs.Limits.{longest}
+use Rattle.items.proofs.Ranges.{Ranges, none, more}
 use Rattle.rules.specs.Terms.{Terms}
 use Rattle.rules.specs.Score.{Seq, end}
 use Rattle.rules.specs.Rules.{readingOf, Line}

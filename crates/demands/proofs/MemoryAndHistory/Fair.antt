@@ -6,11 +6,11 @@ use mathlib.Core.Bool.{Bool}
 use mathlib.Core.List.{List}
 use lib.ListN.{length}
 use Rattle.page.specs.declared.Item.{Item}
-use Rattle.score.specs.Contents.{countsOf}
+use Rattle.contents.specs.Contents.{countsOf}
 use Rattle.score.specs.Piece.{decode}
 use Rattle.score.specs.File.{Accepted}
+use Rattle.items.proofs.Ranges.{Ranges, table-ranges}
 use Rattle.score.proofs.Accepted.{file-sized, file-items}
-use Rattle.score.proofs.Ranges.{Ranges, table-ranges}
 use Rattle.score.proofs.Decoded.{events-decoded}
 use Rattle.rules.specs.Page.{entries}
 use Rattle.rules.specs.Written.{actionsOn}

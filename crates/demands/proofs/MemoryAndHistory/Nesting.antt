@@ -9,13 +9,14 @@ use lib.ListN.{length}
 use borrow.Author.Tests.{eq-eqb}
 use Rattle.page.specs.declared.Item.{Item}
 use Rattle.base.specs.Tests.{pick}
-use Rattle.score.specs.declared.contents.Counts.{Counts}
-use Rattle.score.specs.declared.items.Setting.{Setting}
-use Rattle.score.specs.Contents.{countsOf}
-use Rattle.score.specs.Items.{withinOf, next, inside}
+use Rattle.contents.specs.declared.Counts.{Counts}
+use Rattle.contents.specs.Contents.{countsOf}
+use Rattle.items.specs.declared.Setting.{Setting}
+use Rattle.items.specs.Items.{withinOf, next, inside}
 use Rattle.score.specs.Piece.{decode}
 use Rattle.score.specs.File.{Accepted}
-use Rattle.score.proofs.Walked.{Walked, walked-none, walked-item, accepted-walked}
+use Rattle.items.proofs.Walked.{Walked, walked-none, walked-item}
+use Rattle.score.proofs.Accepted.{accepted-walked}
 use Rattle.rules.specs.Page.{goesOn}
 
 -- Items that go on with the sequence of part q at event i, each with what lies within it: so many levels deep at most.

@@ -12,8 +12,8 @@ use lib.Seq.{take-at, drop-at}
 use borrow.Author.Tests.{eqb-true, eq-eqb, ne-eqb}
 use Rattle.page.specs.declared.Item.{Item}
 use Rattle.base.specs.Tests.{pick}
-use Rattle.score.specs.Contents.{countsOf}
-use Rattle.score.specs.Items.{withinOf}
+use Rattle.contents.specs.Contents.{countsOf}
+use Rattle.items.specs.Items.{withinOf}
 use Rattle.score.specs.Piece.{decode}
 use Rattle.score.specs.File.{Accepted}
 use Rattle.rules.specs.Page.{levels, sequenceOf, goesOn, runLength, entriesOf, entries}

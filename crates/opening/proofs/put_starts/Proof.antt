@@ -3,7 +3,7 @@
 use mathlib.Core.Path.{_≡_}
 use Prim.Native.Nat.{_+_, _-_, _*_, _≤_}
 use lib.ListN.{length, drop}
-use Rattle.score.specs.Limits.{longest}
+use Rattle.contents.specs.Limits.{longest}
 use Rattle.score.specs.Piece.{decode}
 use Rattle.session.specs.Layout.{startsAt}
 use Rattle.opening.specs.Opening.{withWords, startsOf}

@@ -1,7 +1,7 @@
 -- What each body told, front to back; the first fault is the answer.
 -- Assumes nothing.
 use borrow.Author.Needs.{needs}
-use Rattle.score.proofs.Verdicts.{told-last, told-fine}
+use Rattle.contents.proofs.Verdicts.{told-last, told-fine}
 use Rattle.score.proofs.FileSteps.{bodies, bodies-told}
 use Rattle.score.proofs.bodies.check_bodies.Statement.{statement}
 use Rattle.score.proofs.bodies.check_bodies.Tie as tie

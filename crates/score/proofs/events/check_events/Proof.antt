@@ -3,8 +3,8 @@
 use Prim.Native.Nat.{_+_, _*_, _≤_}
 use mathlib.Core.Path.{_≡_}
 use lib.ListN.{length}
-use Rattle.score.specs.Limits.{eventSize}
-use Rattle.score.specs.Contents.{eventsAt}
+use Rattle.contents.specs.Limits.{eventSize}
+use Rattle.contents.specs.Contents.{eventsAt}
 use Rattle.score.specs.Events.{durationsAt, eventsRight}
 use Rattle.score.proofs.EventSteps.{events}
 use Rattle.score.proofs.events.check_events.Statement.{statement}

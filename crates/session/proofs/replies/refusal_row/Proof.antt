@@ -1,8 +1,8 @@
 -- Each case is its own row, by definition.
 -- Assumes nothing.
 use mathlib.Core.Path.{_≡_}
-use Rattle.score.specs.declared.Reply.{Reply}
-use Rattle.score.specs.Replies.{replyOf}
+use Rattle.contents.specs.declared.Reply.{Reply}
+use Rattle.contents.specs.Replies.{replyOf}
 use Rattle.session.specs.declared.Refusal.{Refusal}
 use Rattle.session.specs.Replies.{refusalRow}
 use borrow.Author.Needs.{needs}

@@ -1,0 +1,4 @@
+-- Laws of verdicts, of the table of contents and of parts of a file, for the crates that check the bodies.
+pub mod Verdicts
+pub mod ContentsLaws
+pub mod PartLaws

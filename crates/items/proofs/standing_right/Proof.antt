@@ -1,0 +1,36 @@
+-- What each rule told, in the order of the definition.
+-- Assumes nothing.
+use borrow.Author.Needs.{needs}
+use Rattle.base.proofs.TestLaws.{calls}
+use Rattle.items.specs.Items.{standingRight}
+use Rattle.items.proofs.standing_right.Statement.{statement}
+use Rattle.items.proofs.standing_right.Tie as tie
+
+returns : tie.Need-returns
+unfolding standingRight
+returns c = search calls depth 9
+
+returns-2 : tie.Need-returns-2
+unfolding standingRight
+returns-2 c = search calls depth 9
+
+returns-3 : tie.Need-returns-3
+unfolding standingRight
+returns-3 c = search calls depth 9
+
+returns-4 : tie.Need-returns-4
+unfolding standingRight
+returns-4 c = search calls depth 9
+
+pub standing-right-spec : {M : Type 1} → statement M
+standing-right-spec =
+    tie.close
+    (tie.spec
+    (λ c κs. search needs)
+    returns
+    (λ c κs. search needs)
+    returns-2
+    (λ c κs. search needs)
+    returns-3
+    (λ c κs. search needs)
+    returns-4)
