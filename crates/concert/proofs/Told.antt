@@ -1,4 +1,4 @@
--- What `play` prints from a granted opening on is what the rules give: line by line the session's words say the history, so a call answers as the history does, and
+-- What `play` prints is what the rules give. From a granted opening on: line by line the session's words say the history, so a call answers as the history does, and
 -- the send room holds the history's messages. Assumes nothing.
 use mathlib.Core.Path.{_≡_, refl, ap, sym, _∙_}
 use Prim.Native.Nat.{ℕ, _+_, _≤_, _<_}
@@ -9,16 +9,18 @@ use lib.Dec.{eqb}
 use lib.ListN.{length}
 use borrow.Author.Tests.{le-leb, ne-eqb}
 use Rattle.base.specs.Tests.{pick, between}
+use Rattle.base.specs.Checks.{Check, fine, refused}
 use Rattle.score.specs.File.{Accepted}
 use Rattle.score.specs.Piece.{decode}
 use Rattle.rules.specs.Terms.{Terms}
 use Rattle.rules.specs.Page.{Entry}
+use Rattle.session.specs.declared.Refusal.{Refusal}
 use Rattle.session.specs.Layout.{memorySize, roomSize, mostTempo}
 use Rattle.session.specs.Parts.{sounds, soundingBelow}
-use Rattle.opening.specs.Opening.{zeros, opened}
+use Rattle.opening.specs.Opening.{zeros, openingCheck, opened}
 use Rattle.opening.specs.Replies.{openingReply}
 use Rattle.opening.proofs.ClearedLaws.{zeros-length}
-use Rattle.opening.proofs.Opened.{opened-sounding}
+use Rattle.opening.proofs.Opened.{opened-accepted, opened-tempo, opened-sounding}
 use Rattle.sequencer.specs.declared.Figures.{Figures}
 use Rattle.sequencer.specs.Replies.{sendingReply, reportReply}
 use Rattle.sequencer.specs.Calls.{SendingResult, heardNote, passingTime}
@@ -31,12 +33,15 @@ use Rattle.demands.proofs.MemoryAndHistory.Answers.{call-answers, call-leaves}
 use Rattle.demands.proofs.MemoryAndHistory.Opened.{granted, opened-holds}
 use Rattle.lines.specs.declared.Command.{Command}
 use Rattle.lines.specs.declared.Command.the-variants.{Open, Hear, Pass, Bad}
-use Rattle.lines.specs.Commands.{commandOf, inTurn}
+use Rattle.lines.specs.Lines.{linesOf}
+use Rattle.lines.specs.Commands.{mostParts, commandOf, inTurn}
 use Rattle.lines.specs.Output.{openLine, badLine}
-use Rattle.playing.specs.Printed.{linesOf, Stand, Carried, figuresOf, sendingLines, carriedOpening, carriedSending, carriedBy, carried, ending, printedFrom, outset, printed}
-use Rattle.concert.specs.Told.{sendingTold, callTold, call, none, askedBy, toldFrom, told}
+use Rattle.lines.proofs.PartsLaws.{command-parts}
+use Rattle.playing.specs.Printed.{Stand, figuresOf, sendingLines, carriedOpening, carriedSending, carriedBy, carried, ending, printedFrom, outset, printed}
+use Rattle.concert.specs.Told.{sendingTold, callTold, call, none, askedBy, toldFrom, openingTold, firstTold, linesTold, told}
 use Rattle.concert.proofs.MessageNumbers.{messages-small}
 use Rattle.concert.proofs.AnswerTold.{answer-told, room-stays}
+use Rattle.concert.proofs.Unopened.{printed-line, heard-first, passed-first, bad-first, refused-first, unopened-all}
 
 -- ---- two calls that differ in their send rooms alone
 
@@ -91,11 +96,6 @@ module _ (f : List ℕ) (n : ℕ) (m room l : List ℕ) where
   late-line : (parts tempo : ℕ) → 2 ≤ n → commandOf l ≡ Open parts tempo → carried f n (standing m room) l ≡ record { stand = standing m room; output = badLine n }
   unfolding carried carriedBy inTurn pick
   late-line parts tempo two e = let other : eqb n 1 ≡ false = ne-eqb n 1 (λ z. omega arith) in rw (e, other)
-
-module _ (f : List ℕ) (n : ℕ) (st : Stand) (l : List ℕ) (ls : List (List ℕ)) where
-  printed-line : (c : Carried) → carried f n st l ≡ c → printedFrom f n st (l ∷ ls) ≡ c .output ++ printedFrom f (n + 1) (c .stand) ls
-  unfolding printedFrom
-  printed-line c e = rw e
 
 module _ (f ds : List ℕ) (es : List Entry) (n total : ℕ) (s : Now) (l : List ℕ) (ls : List (List ℕ)) where
   told-call : (k : Command) (c : Call) → commandOf l ≡ k → askedBy k ≡ call c
@@ -215,18 +215,40 @@ module _ (f : List ℕ) (o : Terms) (accepted : Accepted f) (sixteen : o .parts 
   opening-line first e =
       rw (e, opened-sounding (zeros memorySize) f o (granted f (zeros memorySize) o accepted zeros-long sixteen speed) sixteen)
 
-  -- What is printed for an input whose first line is a granted opening, whatever the lines after it are: what the rules give.
-  pub printed-told : (first : List ℕ) (rest : List (List ℕ)) → commandOf first ≡ Open (o .parts) (o .tempo)
+  -- Whatever the lines after it are.
+  granted-told : (first : List ℕ) (rest : List (List ℕ)) → commandOf first ≡ Open (o .parts) (o .tempo)
       → printedFrom f 1 outset (first ∷ rest)
       ≡ openLine 0 (soundingBelow (o .parts) 16) ++ toldFrom f (decode f .durations) (soundingIn f (sounds (o .parts))) 2 0 (start o) rest
-  printed-told first rest e =
+  granted-told first rest e =
       printed-line f 1 outset first rest _ (opening-line first e)
       ∙ ap (λ (t : List ℕ). openLine 0 (soundingBelow (o .parts) 16) ++ t)
       (lines-told f accepted o rest 2 0 (start o) (opened (zeros memorySize) f o .memory) (zeros roomSize) (omega arith)
       (opened-holds f (zeros memorySize) o accepted zeros-long sixteen speed) zeros-wide)
 
-  -- The same of the bytes of an input.
-  pub input-told : (input first : List ℕ) (rest : List (List ℕ)) → linesOf input ≡ first ∷ rest → commandOf first ≡ Open (o .parts) (o .tempo)
-      → printed f input ≡ told f o rest
-  unfolding printed told
-  input-told input first rest lines e = ap (printedFrom f 1 outset) lines ∙ printed-told first rest e
+-- ---- the whole input
+
+module _ (f l : List ℕ) (ls : List (List ℕ)) where
+  opening-told : (o : Terms) → commandOf l ≡ Open (o .parts) (o .tempo) → (v : Check Refusal) → openingCheck (zeros memorySize) f o ≡ v
+      → printedFrom f 1 outset (l ∷ ls) ≡ openingTold f o v ls
+  unfolding openingTold
+  opening-told o e fine g =
+      let few : o .parts ≤ mostParts = command-parts (o .parts) (o .tempo) l e in
+      granted-told f o (opened-accepted (zeros memorySize) f o g) (omega arith) (opened-tempo (zeros memorySize) f o g) l ls e
+  opening-told o e (refused x) g = refused-first f l ls o x e g
+
+  first-told : (c : Command) → commandOf l ≡ c → printedFrom f 1 outset (l ∷ ls) ≡ firstTold f c l ls
+  unfolding firstTold
+  first-told (Open parts tempo) e = opening-told (record { parts = parts; tempo = tempo }) e _ refl
+  first-told (Hear event tempo) e = heard-first f l ls event tempo e
+  first-told (Pass ms) e = passed-first f l ls ms e
+  first-told Bad e = bad-first f l ls e
+
+every-told : (f : List ℕ) (ls : List (List ℕ)) → printedFrom f 1 outset ls ≡ linesTold f ls
+unfolding linesTold
+every-told f [] = unopened-all f
+every-told f (l ∷ ls) = first-told f l ls (commandOf l) refl
+
+-- What is printed is what the rules give, whatever the bytes of the score file and of the input are.
+pub printed-told : (f input : List ℕ) → printed f input ≡ told f input
+unfolding printed told
+printed-told f input = every-told f (linesOf input)

@@ -1,2 +1,2 @@
--- What `play` prints from a granted opening on, by the score and the history of the calls alone.
+-- What `play` prints, by the score and the history of the calls alone.
 pub mod Told

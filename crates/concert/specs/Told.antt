@@ -1,4 +1,4 @@
--- What `play` prints from a granted opening on, by the score and the history of the calls alone: no session memory, and nothing of what a send room holds.
+-- What `play` prints, by the score and the history of the calls alone: nothing of what session memory or a send room holds.
 use Prim.Native.Nat.{ℕ, _+_}
 use mathlib.Core.List.{List, [], _∷_, _++_}
 use lib.ListN.{length}
@@ -8,15 +8,16 @@ use Rattle.score.specs.LookUp.{labelBytes}
 use Rattle.rules.specs.Terms.{Terms}
 use Rattle.rules.specs.Page.{Entry}
 use Rattle.session.specs.declared.Refusal.{Refusal}
-use Rattle.session.specs.Layout.{roomSize}
+use Rattle.session.specs.Layout.{memorySize, roomSize}
 use Rattle.session.specs.Parts.{sounds, soundingBelow}
 use Rattle.session.specs.Replies.{refusalRow}
-use Rattle.opening.specs.Opening.{zeros}
+use Rattle.opening.specs.Opening.{zeros, openingCheck}
 use Rattle.demands.specs.History.{Call, note, pass, Now, start, verdict, moved, after}
 use Rattle.demands.specs.Messages.{Sent}
 use Rattle.demands.specs.Answers.{messagesOf, messagesBy, soundingIn}
 use Rattle.lines.specs.declared.Command.{Command}
 use Rattle.lines.specs.declared.Command.the-variants.{Open, Hear, Pass, Bad}
+use Rattle.lines.specs.Lines.{linesOf}
 use Rattle.lines.specs.Commands.{commandOf}
 use Rattle.lines.specs.Output.{openLine, messageLine, noLine, badLine, endLine}
 
@@ -63,8 +64,34 @@ toldFrom f ds es n total s (l ∷ ls) =
       | none ↦ badLine n ++ toldFrom f ds es (n + 1) total s ls
     ]
 
+-- ---- without a session
+
+-- "Out of turn are an `O` on any line but the first, and `H` or `T` before an opening that was granted": these lines, of which the first is line n, are all bad. "clock
+-- and total, both 0 without a session"
+unfoldable pub unopenedFrom : (line : ℕ) → List (List ℕ) → List ℕ
+unopenedFrom n [] = endLine 0 0
+unopenedFrom n (l ∷ ls) = badLine n ++ unopenedFrom (n + 1) ls
+
 -- ---- the whole input
 
--- A granted opening on these terms as the first line, and the lines after it. "`open N parts C` (reply number, sounding parts, 0 if refused)"
-unfoldable pub told : (file : List ℕ) → Terms → List (List ℕ) → List ℕ
-told f o ls = openLine 0 (soundingBelow (o .parts) 16) ++ toldFrom f (decode f .durations) (soundingIn f (sounds (o .parts))) 2 0 (start o) ls
+-- "`open N parts C` (reply number, sounding parts, 0 if refused)", and the lines after it.
+unfoldable pub openingTold : (file : List ℕ) → Terms → Check Refusal → List (List ℕ) → List ℕ
+openingTold f o fine ls = openLine 0 (soundingBelow (o .parts) 16) ++ toldFrom f (decode f .durations) (soundingIn f (sounds (o .parts))) 2 0 (start o) ls
+openingTold f o (refused x) ls = openLine (refusalRow x .number) 0 ++ unopenedFrom 2 ls
+
+-- By what the first line asks for: an opening, in 8,192 words, or nothing that is in turn.
+unfoldable pub firstTold : (file : List ℕ) → Command → (line : List ℕ) → List (List ℕ) → List ℕ
+firstTold f (Open parts tempo) l ls =
+    let o : Terms = record { parts = parts; tempo = tempo } in
+    openingTold f o (openingCheck (zeros memorySize) f o) ls
+firstTold f (Hear event tempo) l ls = unopenedFrom 1 (l ∷ ls)
+firstTold f (Pass ms) l ls = unopenedFrom 1 (l ∷ ls)
+firstTold f Bad l ls = unopenedFrom 1 (l ∷ ls)
+
+unfoldable pub linesTold : (file : List ℕ) → List (List ℕ) → List ℕ
+linesTold f [] = unopenedFrom 1 []
+linesTold f (l ∷ ls) = firstTold f (commandOf l) l ls
+
+-- What `play` prints.
+unfoldable pub told : (file input : List ℕ) → List ℕ
+told f input = linesTold f (linesOf input)

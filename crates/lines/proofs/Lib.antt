@@ -1,5 +1,6 @@
 -- Laws of what `play` reads and prints, for the proofs of several functions and for the program above.
 pub mod CommandSteps
+pub mod PartsLaws
 pub mod KeptLaws
 pub mod PrintLaws
 pub mod LineLengths

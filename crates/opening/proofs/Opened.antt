@@ -38,7 +38,7 @@ module _ (m f : List ℕ) (o : Terms) (granted : openingCheck m f o ≡ fine) wh
   unfolding openingCheck
   opened-accepted = record { fine = renamed-fine File _ (first-head _ _ (first-rest _ _ granted)) }
 
-  opened-tempo : between 1 mostTempo (o .tempo) ≡ true
+  pub opened-tempo : between 1 mostTempo (o .tempo) ≡ true
   unfolding openingCheck
   opened-tempo = first-holds _ _ _ (first-rest _ _ (first-rest _ _ granted))
 

@@ -10,7 +10,8 @@ use Rattle.base.proofs.TestLaws.{pick-true, pick-false}
 use Rattle.ascii.specs.Words.{newline}
 use Rattle.lines.specs.Input.{keptBytes}
 use Rattle.lines.proofs.KeptLaws.{command-of-kept, take-again}
-use Rattle.playing.specs.Printed.{Stand, Carried, lastLine, linesFrom, linesOf, carried, ending, printedFrom, outset, printed}
+use Rattle.lines.specs.Lines.{lastLine, linesFrom, linesOf}
+use Rattle.playing.specs.Printed.{Stand, Carried, carried, ending, printedFrom, outset, printed}
 use Rattle.playing.specs.Reading.{Reading, ReadOn, lineRead, byteKept, bytesRead, lastRead, endRead, nothingRead, chunksRead, inputOf}
 use Rattle.playing.proofs.ReadingLaws.{reading-in-pieces, output-in-pieces, newline-read, other-read}
 

@@ -6,5 +6,4 @@ pub mod LineSteps
 pub mod ReadingLaws
 pub mod GoingSteps
 pub mod Chunks
-pub mod LongScore
 pub mod OneOutcome

@@ -3,8 +3,6 @@ use Prim.Native.Nat.{ℕ, _+_, _/_, _%_}
 use mathlib.Core.Bool.{Bool, true, false}
 use mathlib.Core.List.{List, [], _∷_, _++_}
 use lib.Dec.{eqb}
-use Rattle.base.specs.Tests.{pick}
-use Rattle.ascii.specs.Words.{newline}
 use Rattle.score.specs.LookUp.{labelBytes}
 use Rattle.session.specs.Layout.{memorySize, roomSize}
 use Rattle.session.specs.Replies.{refusalRow}
@@ -18,23 +16,9 @@ use Rattle.sequencer.specs.Replies.{reportReply}
 use Rattle.sequencer.specs.Calls.{SendingResult, heardNote, passingTime, reported}
 use Rattle.lines.specs.declared.Command.{Command}
 use Rattle.lines.specs.declared.Command.the-variants.{Open, Hear, Pass, Bad}
+use Rattle.lines.specs.Lines.{linesOf}
 use Rattle.lines.specs.Commands.{commandOf, inTurn}
 use Rattle.lines.specs.Output.{openLine, messageLine, noLine, badLine, endLine}
-
--- ---- the input's lines
-
--- "nothing after the last newline is no line"
-unfoldable pub lastLine : List ℕ → List (List ℕ)
-lastLine [] = []
-lastLine (b ∷ bs) = (b ∷ bs) ∷ []
-
--- "A line ends at a newline byte or the input's end". The first line has begun with these bytes.
-unfoldable pub linesFrom : (begun input : List ℕ) → List (List ℕ)
-linesFrom begun [] = lastLine begun
-linesFrom begun (b ∷ bs) = pick (eqb b newline) (begun ∷ linesFrom [] bs) (linesFrom (begun ++ (b ∷ [])) bs)
-
-unfoldable pub linesOf : List ℕ → List (List ℕ)
-linesOf input = linesFrom [] input
 
 -- ---- a line carried out
 

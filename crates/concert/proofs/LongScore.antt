@@ -1,6 +1,6 @@
 -- A file that is longer than any score is refused, cut or whole, with the same number: so it is enough to read its first bytes.
 -- The contents are the same and decide; no session is ever open, and no label is asked for. Assumes nothing.
-use mathlib.Core.Path.{_≡_, refl, ap, _∙_}
+use mathlib.Core.Path.{_≡_, refl, ap, sym, _∙_}
 use mathlib.Core.Bool.{Bool, true, false}
 use mathlib.Core.List.{List, [], _∷_, _++_}
 use Prim.Native.Nat.{ℕ, _+_, _<_, _≤_}
@@ -25,16 +25,16 @@ use Rattle.contents.proofs.ContentsLaws.{counts-held, offsets-held}
 use Rattle.score.proofs.Accepted.{file-sized}
 use Rattle.rules.specs.Terms.{Terms}
 use Rattle.session.specs.declared.Refusal.{Refusal}
-use Rattle.session.specs.declared.Refusal.the-variants.{MemoryShort, RoomShort, File, BadTempo, NoSession, NoEvent, NotAfter, BadMillis, ClockFull}
-use Rattle.session.specs.Replies.{refusalRow}
-use Rattle.opening.specs.Opening.{openingCheck}
-use Rattle.opening.specs.Replies.{openingReply}
-use Rattle.opening.proofs.Opened.{opened-accepted, refused-kept}
+use Rattle.session.specs.Layout.{memorySize}
+use Rattle.opening.specs.Opening.{zeros, openingCheck}
+use Rattle.opening.proofs.Opened.{opened-accepted}
 use Rattle.lines.specs.declared.Command.{Command}
 use Rattle.lines.specs.declared.Command.the-variants.{Open, Hear, Pass, Bad}
-use Rattle.lines.specs.Commands.{commandOf, inTurn}
-use Rattle.playing.proofs.OpenSteps.{refusal-numbered}
-use Rattle.playing.specs.Printed.{Stand, Carried, carriedOpening, carriedBy, carried, printedFrom, outset, linesOf, printed}
+use Rattle.lines.specs.Lines.{linesOf}
+use Rattle.lines.specs.Commands.{commandOf}
+use Rattle.playing.specs.Printed.{printed}
+use Rattle.concert.specs.Told.{openingTold, firstTold, linesTold, told}
+use Rattle.concert.proofs.Told.{printed-told}
 
 -- The longest score has 52,256 bytes.
 abbrev pub longestScore : ℕ
@@ -111,63 +111,36 @@ module _ (f : List ℕ) (n : ℕ) (long : longestScore < n) (cut : n ≤ length 
 
 -- ---- no opening is granted on it
 
--- Two carryings-out that are the same, and leave no session open.
-record Alike (c d : Carried) : Type 0 where
-  same : c ≡ d
-  closed : d .stand .opened ≡ false
-
-module _ (f g : List ℕ) (alike : (m : List ℕ) (o : Terms) → openingCheck m g o ≡ openingCheck m f o) (never : (m : List ℕ) (o : Terms) → openingCheck m f o ≡ fine → ⊥) where
-  module _ (k : ℕ) (s : Stand) (closed : s .opened ≡ false) where
-    opening-alike : (parts tempo : ℕ) → Alike (carriedBy g k s (Open parts tempo)) (carriedBy f k s (Open parts tempo))
-    unfolding carriedBy carriedOpening openingReply
-    opening-alike parts tempo = go (openingCheck (s .memory) f o) refl where
-      o : Terms
-      o = record { parts = parts; tempo = tempo }
-
-      go : (v : Check Refusal) → openingCheck (s .memory) f o ≡ v → Alike (carriedBy g k s (Open parts tempo)) (carriedBy f k s (Open parts tempo))
-      go fine e = absurd (never (s .memory) o e)
-      go (refused x) e =
-          let a = refused-kept (s .memory) f o x e in
-          let b = refused-kept (s .memory) g o x (alike (s .memory) o ∙ e) in
-          rw (a, b) (record { same = refl; closed = refusal-numbered x })
-
-    bad-alike : Alike (carriedBy g k s Bad) (carriedBy f k s Bad)
-    unfolding carriedBy
-    bad-alike = record { same = refl; closed = closed }
-
-    closed-alike : (first : Bool) (c : Command) → Alike (carriedBy g k s (inTurn first false c)) (carriedBy f k s (inTurn first false c))
-    unfolding inTurn pick
-    closed-alike true (Open parts tempo) = opening-alike parts tempo
-    closed-alike false (Open parts tempo) = bad-alike
-    closed-alike first (Hear event tempo) = bad-alike
-    closed-alike first (Pass ms) = bad-alike
-    closed-alike first Bad = bad-alike
-
-    turn-alike : (first o : Bool) (c : Command) → o ≡ false → Alike (carriedBy g k s (inTurn first o c)) (carriedBy f k s (inTurn first o c))
-    turn-alike first o c e = rw e (closed-alike first c)
-
-    line-alike : (l : List ℕ) → Alike (carried g k s l) (carried f k s l)
-    unfolding carried
-    line-alike l = turn-alike (eqb k 1) (s .opened) (commandOf l) closed
-
-  lines-alike : (k : ℕ) (s : Stand) → s .opened ≡ false → (ls : List (List ℕ)) → printedFrom g k s ls ≡ printedFrom f k s ls
-  unfolding printedFrom
-  lines-alike k s closed [] = refl
-  lines-alike k s closed (l ∷ ls) =
-      let a = line-alike k s closed l in
-      ap (λ (c : Carried). c .output ++ printedFrom g (k + 1) (c .stand) ls) (a .same)
-      ∙ ap (λ (o : List ℕ). carried f k s l .output ++ o) (lines-alike (k + 1) (carried f k s l .stand) (a .closed) ls)
-
--- ---- what is printed
-
 never-granted : (f : List ℕ) → longestScore < length f → (m : List ℕ) (o : Terms) → openingCheck m f o ≡ fine → ⊥
 never-granted f p m o e = long-refused f p (opened-accepted m f o e .fine)
 
+module _ (f g : List ℕ) (alike : (m : List ℕ) (o : Terms) → openingCheck m g o ≡ openingCheck m f o) (never : (m : List ℕ) (o : Terms) → openingCheck m f o ≡ fine → ⊥) where
+  opening-alike : (o : Terms) (v : Check Refusal) → openingCheck (zeros memorySize) f o ≡ v → (ls : List (List ℕ)) → openingTold g o v ls ≡ openingTold f o v ls
+  unfolding openingTold
+  opening-alike o fine e ls = absurd (never (zeros memorySize) o e)
+  opening-alike o (refused x) e ls = refl
+
+  first-alike-told : (c : Command) (l : List ℕ) (ls : List (List ℕ)) → firstTold g c l ls ≡ firstTold f c l ls
+  unfolding firstTold
+  first-alike-told (Open parts tempo) l ls =
+      let o : Terms = record { parts = parts; tempo = tempo } in
+      rw (alike (zeros memorySize) o) (opening-alike o _ refl ls)
+  first-alike-told (Hear event tempo) l ls = refl
+  first-alike-told (Pass ms) l ls = refl
+  first-alike-told Bad l ls = refl
+
+  lines-alike : (ls : List (List ℕ)) → linesTold g ls ≡ linesTold f ls
+  unfolding linesTold
+  lines-alike [] = refl
+  lines-alike (l ∷ ls) = first-alike-told (commandOf l) l ls
+
+-- ---- what is printed
+
 pub long-file : (f input : List ℕ) (n : ℕ) → longestScore < n → n ≤ length f → printed (take n f) input ≡ printed f input
-unfolding printed outset
+unfolding told
 long-file f input n p q =
-    let never : (m : List ℕ) (o : Terms) → openingCheck m f o ≡ fine → ⊥ = never-granted f (omega arith) in
-    lines-alike f (take n f) (check-cut f n p q) never 1 outset refl (linesOf input)
+    printed-told (take n f) input
+    ∙ (lines-alike f (take n f) (check-cut f n p q) (never-granted f (omega arith)) (linesOf input) ∙ sym (printed-told f input))
 
 pub long-score : (f input : List ℕ) → fileRoom ≤ length f → printed (take fileRoom f) input ≡ printed f input
 long-score f input p = long-file f input fileRoom (omega arith) p
