@@ -1,7 +1,7 @@
 // The items of a sequence, one after the other, and of the groups within it: heard and missed groups call on each other.
 use fates::Places;
-use fates::items;
 use fates::outcomes;
+use fates::running;
 use fates::words;
 use rules::ErrorWord;
 use rules::Fate;
@@ -95,7 +95,7 @@ pub fn heard_body(
         let from = t.items + place;
         let w = mem[from];
         date = Grains(date.0 + words::delay_in(w).0);
-        let f = items::heard_fate(mem, t, y, e, i, date);
+        let f = running::heard_fate(mem, t, y, e, i, date);
         let n = item(mem, t, levels, place, left, w, f);
         place += n;
         left -= n;
@@ -124,7 +124,7 @@ pub fn missed_body(
         let from = t.items + place;
         let w = mem[from];
         after = Grains(after.0 + words::delay_in(w).0);
-        let f = items::missed_fate(mem, t, y, e, j, start, after);
+        let f = running::missed_fate(mem, t, y, e, j, start, after);
         let n = item(mem, t, levels, place, left, w, f);
         place += n;
         left -= n;

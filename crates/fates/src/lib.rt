@@ -1,7 +1,7 @@
 // The rules of performance for one item, carried out over lent words, wherever they stand: how it runs by what holds it, and the word for its outcome.
 pub mod words; // words.rt: the fields of a word
 mod dates; // dates.rt: what is left of a date, and "the last event k with E(k) <= t"
-pub mod items; // items.rt: how an item runs, by what holds it
+pub mod running; // running.rt: how an item runs, by what holds it
 pub mod outcomes; // outcomes.rt: the outcome of an action
 
 // Where the words that are read and written begin among those lent: `starts` and `taken` by event, `items` and `outcomes` by page place. How many events there

@@ -77,9 +77,9 @@ fn put_refusal(text: &mut [u8], x: Refusal) -> usize
     requires { ⌜ 256 ≤ length (now text) ⌝ }
 {
     let Refusal::File(_) = x else {
-        return words::refusal_line(text, b"line 1", x);
+        return refusals::refusal_line(text, b"line 1", x);
     };
-    words::refusal_line(text, b"score.bin", x)
+    refusals::refusal_line(text, b"score.bin", x)
 }
 
 fn say_refusal(file: &[u8]) {

@@ -18,8 +18,8 @@ use Rattle.evaluators.proofs.walk.+heard_body+item+missed_body+still_bo
 use Rattle.evaluators.proofs.walk.within.Reads as within
 use Rattle.evaluators.proofs.walk.within.Kinds as within-kinds
 use Rattle.evaluators.proofs.walk.+heard_body+item+missed_body+still_body+within.Lts-within as within-lts
-use Rattle.fates.proofs.items.heard_fate.Reads as heard-fate-reads
-use Rattle.fates.proofs.items.missed_fate.Reads as missed-fate-reads
+use Rattle.fates.proofs.running.heard_fate.Reads as heard-fate-reads
+use Rattle.fates.proofs.running.missed_fate.Reads as missed-fate-reads
 use Rattle.fates.proofs.outcomes.leave.Reads as leave-reads
 use Rattle.evaluators.proofs.walk.extent.Reads as extent-reads
 use Rattle.fates.proofs.words.delay_in.Reads as delay-in-reads

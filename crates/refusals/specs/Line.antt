@@ -1,0 +1,30 @@
+-- The line that tells people of a refusal, as `score.bin: refused 7 at byte 116: an item against the rules; also the 1,025th action`.
+use Prim.Native.Nat.{ℕ}
+use mathlib.Core.List.{List, [], _∷_, _++_}
+use Rattle.base.specs.Tests.{pick}
+use Rattle.ascii.specs.Words.{newline}
+use Rattle.ascii.specs.Decimals.{decimal}
+use Rattle.session.specs.declared.Refusal.{Refusal}
+use Rattle.session.specs.Replies.{refusalRow}
+use Rattle.ascii.specs.Text.{bytesOf}
+use Rattle.refusals.specs.Words.{refusalWords, placed}
+
+-- A place in the file, and room for it: its word, and a number of 20 digits.
+unfoldable pub atByte : ℕ → List ℕ
+atByte place = bytesOf " at byte " ++ decimal place
+
+abbrev pub placeRoom : ℕ
+placeRoom = 29
+
+-- The place, where the refusal has one.
+unfoldable pub placeWords : Refusal → List ℕ
+placeWords x = pick (placed x) (atByte (refusalRow x .place)) []
+
+-- What is refused, then the table's row: number, place and words.
+unfoldable pub refusalLine : (name : List ℕ) → Refusal → List ℕ
+refusalLine name x =
+    name ++ (bytesOf ": refused " ++ (decimal (refusalRow x .number) ++ (placeWords x ++ (bytesOf ": " ++ (refusalWords x ++ (newline ∷ []))))))
+
+-- Room for the line of any refusal, without its name.
+abbrev pub refusalRoom : ℕ
+refusalRoom = 128
