@@ -9,11 +9,12 @@ use lib.ListN.{length, take, drop, drop-of-length-le, length-take}
 use borrow.Author.Needs.{needs}
 use Rattle.score.specs.File.{Accepted}
 use Rattle.lines.specs.Input.{keptBytes}
-use Rattle.playing.specs.declared.Progress.{Progress}
-use Rattle.playing.specs.declared.Step.{Step}
-use Rattle.playing.specs.Reading.{Reading, ReadOn, bytesRead, lineOn}
-use Rattle.playing.specs.Inner.{outputRoom, Asked, readingOf, Going, WentOn}
-use Rattle.playing.proofs.ReadingLaws.{readAfter, read-on}
+use Rattle.playing.specs.Inner.{outputRoom, Asked}
+use Rattle.chunks.specs.declared.Progress.{Progress}
+use Rattle.chunks.specs.declared.Step.{Step}
+use Rattle.chunks.specs.Reading.{Reading, ReadOn, bytesRead, lineOn}
+use Rattle.chunks.specs.Inner.{readingOf, Going, WentOn}
+use Rattle.chunks.proofs.ReadingLaws.{readAfter, read-on}
 
 -- The chunk is read up to a place, from r₀ on, with lines₀ lines before it.
 pub record Taking (f chunk : List ℕ) (r₀ : Reading) (lines₀ : ℕ) (m room line out : List ℕ) (at : ℕ) (p : Progress) : Type 0 where

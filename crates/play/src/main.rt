@@ -5,11 +5,12 @@ ghost use Prim.Native.Nat.{_+_, _≤_, _<_};
 ghost use lib.ListN.{length};
 ghost use Rattle.score.specs.File.{Accepted};
 ghost use Rattle.lines.specs.Input.{keptBytes};
-ghost use Rattle.playing.specs.Reading.{bytesRead};
-ghost use Rattle.playing.specs.Inner.{readingOf, Asked, outputRoom, Going, WentOn};
+ghost use Rattle.playing.specs.Inner.{Asked, outputRoom};
+ghost use Rattle.chunks.specs.Reading.{bytesRead};
+ghost use Rattle.chunks.specs.Inner.{readingOf, Going, WentOn};
+use chunks::Progress;
+use chunks::Step;
 use playing::OUTPUT_ROOM;
-use playing::Progress;
-use playing::Step;
 use session::Refusal;
 use session::layout::MEMORY_SIZE;
 use session::layout::ROOM_SIZE;
@@ -129,7 +130,7 @@ fn take_line(
         (now (mem .exit)) (now (room .exit)) (now (line .exit)) (now (out .exit)) (r .step)
         ⌝ }
 {
-    let step = playing::go_on(file, mem, room, chunk, at, line, p, out);
+    let step = chunks::go_on(file, mem, room, chunk, at, line, p, out);
     if !print(out, step.count) {
         return Turn {
             step,
@@ -278,7 +279,7 @@ fn finish(file: &[u8], mem: &mut [u64], room: &mut [u64], line: &[u8], s: Run, o
         × Asked (now file) (s .progress .opened) (now out)
         ⌝ }
 {
-    let n = playing::last_line(file, mem, room, line, s.progress, out);
+    let n = chunks::last_line(file, mem, room, line, s.progress, out);
     if !print(out, n) {
         return FAILED;
     }

@@ -3,7 +3,4 @@ pub mod SentSteps
 pub mod CallSteps
 pub mod OpenSteps
 pub mod LineSteps
-pub mod ReadingLaws
-pub mod GoingSteps
-pub mod Chunks
 pub mod OneOutcome

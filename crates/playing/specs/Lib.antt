@@ -1,5 +1,4 @@
 -- What `play` prints, from the bytes of a score file and of its input: document 01's paragraph on the program `play`.
 pub mod Printed
-pub mod Reading
 pub mod Refused
 pub mod Inner

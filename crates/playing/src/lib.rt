@@ -14,12 +14,9 @@ use sendings::hear_line;
 use sendings::pass_line;
 
 mod openings;
-mod reading;
 mod sendings;
 
 pub use openings::why_refused;
-pub use reading::go_on;
-pub use reading::last_line;
 
 // Bytes that always suffice for what one line prints.
 pub const OUTPUT_ROOM: usize = 114688;
@@ -28,20 +25,6 @@ pub const OUTPUT_ROOM: usize = 114688;
 pub struct Line {
     pub count: usize,
     pub opened: bool,
-}
-
-// How far the input is read: how many lines have ended, how many bytes of the next are kept, and whether a session is open.
-pub struct Progress {
-    pub lines: u64,
-    pub have: usize,
-    pub opened: bool,
-}
-
-// Reading on: where the next line begins in the chunk, how many bytes were printed, and how far the input is read.
-pub struct Step {
-    pub next: usize,
-    pub count: usize,
-    pub progress: Progress,
 }
 
 // A line that can't be read or comes out of turn.

@@ -3,7 +3,7 @@
 use mathlib.Core.Path.{_≡_}
 use Prim.Native.Nat.{_-_}
 use lib.ListN.{length}
-use Rattle.playing.specs.Inner.{readingOf}
+use Rattle.chunks.specs.Inner.{readingOf}
 use borrow.Author.Needs.{needs}
 use Rattle.play.proofs.ChunkSteps.{Taking, taking-step, taking-lines, onward, failed, chunks}
 use Rattle.play.proofs.take_chunk.Statement.{statement}

@@ -15,11 +15,12 @@ use Rattle.ascii.specs.Laying.{Laid}
 use Rattle.score.specs.File.{Accepted}
 use Rattle.lines.specs.declared.Fed.{Fed}
 use Rattle.lines.specs.Input.{keptBytes, lineLength, keptLine, fedOf, Feeds}
-use Rattle.playing.specs.declared.Progress.{Progress}
-use Rattle.playing.specs.declared.Step.{Step}
 use Rattle.playing.specs.Printed.{Stand, carried}
-use Rattle.playing.specs.Reading.{Reading, ReadOn, lineRead, lineOn, lastRead}
-use Rattle.playing.specs.Inner.{Carries, readingOf, Going, WentOn, Ended}
+use Rattle.playing.specs.Inner.{Carries}
+use Rattle.chunks.specs.declared.Progress.{Progress}
+use Rattle.chunks.specs.declared.Step.{Step}
+use Rattle.chunks.specs.Reading.{Reading, ReadOn, lineRead, lineOn, lastRead}
+use Rattle.chunks.specs.Inner.{readingOf, Going, WentOn, Ended}
 
 -- ---- what feeding told
 

@@ -15,8 +15,8 @@ use Rattle.base.proofs.TestLaws.{pick-true, pick-false}
 use Rattle.ascii.specs.Words.{newline, bytesBefore}
 use Rattle.lines.specs.Input.{keptBytes, lineLength, keptLine, fedOf}
 use Rattle.lines.proofs.KeptLaws.{take-again}
 use Rattle.playing.specs.Printed.{Stand}
-use Rattle.playing.specs.Reading.{Reading, ReadOn, lineRead, byteKept, bytesRead, lineOn}
+use Rattle.chunks.specs.Reading.{Reading, ReadOn, lineRead, byteKept, bytesRead, lineOn}
 
 -- Bytes that come after what was read.
 abbrev pub readAfter : (file : List ℕ) → ReadOn → List ℕ → ReadOn

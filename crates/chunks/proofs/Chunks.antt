@@ -11,9 +11,9 @@ use Rattle.ascii.specs.Words.{newline}
 use Rattle.lines.specs.Input.{keptBytes}
 use Rattle.lines.proofs.KeptLaws.{command-of-kept, take-again}
 use Rattle.lines.specs.Lines.{lastLine, linesFrom, linesOf}
 use Rattle.playing.specs.Printed.{Stand, Carried, carried, ending, printedFrom, outset, printed}
-use Rattle.playing.specs.Reading.{Reading, ReadOn, lineRead, byteKept, bytesRead, lastRead, endRead, nothingRead, chunksRead, inputOf}
-use Rattle.playing.proofs.ReadingLaws.{reading-in-pieces, output-in-pieces, newline-read, other-read}
+use Rattle.chunks.specs.Reading.{Reading, ReadOn, lineRead, byteKept, bytesRead, lastRead, endRead, nothingRead, chunksRead, inputOf}
+use Rattle.chunks.proofs.ReadingLaws.{reading-in-pieces, output-in-pieces, newline-read, other-read}
 
 -- ---- what is kept decides what a line does
 

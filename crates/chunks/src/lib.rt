@@ -1,10 +1,23 @@
 // The input in whatever chunks it comes: a line is kept until it ends, and then carried out.
 ghost use Prim.Native.Nat.{_≤_, _<_};
 ghost use lib.ListN.{length};
-ghost use Rattle.playing.specs.Inner.{readingOf, Asked, Going, WentOn, Ended};
-use crate::Progress;
-use crate::Step;
-use crate::play_line;
+ghost use Rattle.playing.specs.Inner.{Asked};
+ghost use Rattle.chunks.specs.Inner.{readingOf, Going, WentOn, Ended};
+use playing::play_line;
+
+// How far the input is read: how many lines have ended, how many bytes of the next are kept, and whether a session is open.
+pub struct Progress {
+    pub lines: u64,
+    pub have: usize,
+    pub opened: bool,
+}
+
+// Reading on: where the next line begins in the chunk, how many bytes were printed, and how far the input is read.
+pub struct Step {
+    pub next: usize,
+    pub count: usize,
+    pub progress: Progress,
+}
 
 // Reads on in the chunk from `at`, up to the line's end or the chunk's. The line that ends is carried out; of one that does not, the first bytes are kept.
 pub fn go_on(
