@@ -19,6 +19,7 @@ use Rattle.sending.specs.Sending.{sentAt}
 use Rattle.sending.proofs.SentLaws.{sent-few, filled-length}
 use Rattle.sequencer.specs.declared.Sending.{Sending}
 use Rattle.sequencer.specs.declared.Sending.the-variants.{Sent, Refused as notSent}
+use Rattle.sequencer.specs.declared.Figures.{Figures}
 use Rattle.sequencer.specs.declared.Report.{Report}
 use Rattle.sequencer.specs.declared.ReportReply.{ReportReply}
 use Rattle.sequencer.specs.Replies.{reportReply}
@@ -75,13 +76,20 @@ fits-few s room c f e = f .few c e
 pub fits-within : (s : Sending) (room : List ℕ) (c : ℕ) → Fits s room → s ≡ Sent c → 2 * c ≤ length room
 fits-within s room c f e = f .within c e
 
+-- ---- the report's figures
+
+pub figures-told : (m : List ℕ) (a : Report) (r : ReportReply) → a ≡ reported m → r ≡ reportReply a → r .figures ≡ figuresOf m
+unfolding figuresOf
+figures-told m a r ea er = rw (er, ea)
+
+pub ruleset reports = (figures-told, needs)
+
 -- ---- what it prints
 
 module _ (f m room out new : List ℕ) (s : Sending) (n : ℕ) where
-  pub sent-laid : (a : Report) (r : ReportReply) (c : ℕ) → a ≡ reported m → r ≡ reportReply a → s ≡ Sent c
-      → Laid out 0 (sentLines f (r .figures .clock) (pairsIn c 0 room)) new n → Laid out 0 (sendingLines f m room s) new n
-  unfolding sendingLines figuresOf
-  sent-laid a r c ea er es laid = rw es (rw (er, ea) at laid)
+  pub sent-laid : (x : Figures) (c : ℕ) → x ≡ figuresOf m → s ≡ Sent c → Laid out 0 (sentLines f (x .clock) (pairsIn c 0 room)) new n → Laid out 0 (sendingLines f m room s) new n
+  unfolding sendingLines
+  sent-laid x c ex es laid = rw es (rw ex at laid)
 
   pub refused-laid : (x : Refusal) (r : Reply) → r ≡ refusalRow x → s ≡ notSent x → Laid out 0 (noLine (r .number)) new n → Laid out 0 (sendingLines f m room s) new n
   unfolding sendingLines
@@ -98,9 +106,8 @@ pub ruleset calls = (heard-fits, pass-fits, sending-carries, needs)
 
 -- ---- the end
 
-pub end-laid : (m out new : List ℕ) (n : ℕ) (a : Report) (r : ReportReply) → a ≡ reported m → r ≡ reportReply a
-    → Laid out 0 (endLine (r .figures .clock) (r .figures .total)) new n → Laid out 0 (ending m) new n
-unfolding ending figuresOf
-end-laid m out new n a r ea er laid = rw (er, ea) at laid
+pub end-laid : (m out new : List ℕ) (n : ℕ) (x : Figures) → x ≡ figuresOf m → Laid out 0 (endLine (x .clock) (x .total)) new n → Laid out 0 (ending m) new n
+unfolding ending
+end-laid m out new n x e laid = rw e at laid
 
 pub ruleset ends = (end-laid, needs)

@@ -10,6 +10,7 @@ ghost use Rattle.playing.specs.Printed.{carried, ending};
 ghost use Rattle.playing.specs.Inner.{Asked, Carries};
 use lines::Command;
 use openings::open_line;
+use sendings::figures_of;
 use sendings::hear_line;
 use sendings::pass_line;
 
@@ -68,7 +69,6 @@ pub fn end_line(mem: &[u64], out: &mut [u8]) -> usize
     requires { ⌜ lineRoom ≤ length (now out) ⌝ }
     ensures { λ r. ⌜ Laid (now (out .entry)) 0 (ending (now (mem .entry))) (now (out .exit)) r ⌝ }
 {
-    let r = sequencer::report_reply(sequencer::read_report(mem));
-    let s = r.figures;
+    let s = figures_of(mem);
     lines::end_line(out, s.clock, s.total)
 }

@@ -8,10 +8,19 @@ ghost use Rattle.score.specs.File.{Accepted};
 ghost use Rattle.session.specs.Layout.{mostSent};
 ghost use Rattle.sending.specs.Room.{pairsIn};
 ghost use Rattle.sequencer.specs.Calls.{heardNote, passingTime};
-ghost use Rattle.playing.specs.Printed.{sentLine, sentLines, sendingLines, carriedSending};
+ghost use Rattle.playing.specs.Printed.{figuresOf, sentLine, sentLines, sendingLines, carriedSending};
 ghost use Rattle.playing.specs.Inner.{messageRoom, outputRoom, Fits, Carries};
 use crate::Line;
+use sequencer::Figures;
 use sequencer::Sending;
+
+// What the report gives: every figure is 0 where there is no session.
+pub fn figures_of(mem: &[u64]) -> Figures
+    ensures { λ r. ⌜ r ≡ figuresOf (now (mem .entry)) ⌝ }
+{
+    let r = sequencer::report_reply(sequencer::read_report(mem));
+    r.figures
+}
 
 // One message's line behind the first `at` bytes.
 fn put_message(file: &[u8], clock: u64, due: u64, word: u64, out: &mut [u8], at: usize) -> usize
@@ -46,8 +55,7 @@ fn put_sent(file: &[u8], mem: &[u64], room: &[u64], sent: Sending, out: &mut [u8
 {
     match sent {
         Sending::Sent(count) => {
-            let r = sequencer::report_reply(sequencer::read_report(mem));
-            let s = r.figures;
+            let s = figures_of(mem);
             put_messages(file, s.clock, room, count, out)
         }
         Sending::Refused(x) => {

@@ -19,7 +19,6 @@ put-sent-spec =
     (tie.spec
     (λ c. search answers)
     (λ c κs. search answers)
-    (λ c κs. search answers)
     put-messages-requires
     (λ c. search answers)
     (λ c κs. search answers)
