@@ -38,6 +38,8 @@ use Rattle.lines.specs.Commands.{mostParts, commandOf, inTurn}
 use Rattle.lines.specs.Output.{openLine, badLine}
 use Rattle.lines.proofs.PartsLaws.{command-parts}
 use Rattle.playing.specs.Printed.{Stand, figuresOf, sendingLines, carriedOpening, carriedSending, carriedBy, carried, ending, printedFrom, outset, printed}
+use Rattle.chunks.specs.Reading.{endRead, nothingRead, chunksRead, inputOf}
+use Rattle.chunks.proofs.Chunks.{whatever-the-chunks}
 use Rattle.concert.specs.Told.{sendingTold, callTold, call, none, askedBy, toldFrom, openingTold, firstTold, linesTold, told}
 use Rattle.concert.proofs.MessageNumbers.{messages-small}
 use Rattle.concert.proofs.AnswerTold.{answer-told, room-stays}
@@ -252,3 +254,7 @@ every-told f (l ∷ ls) = first-told f l ls (commandOf l) refl
 pub printed-told : (f input : List ℕ) → printed f input ≡ told f input
 unfolding printed told
 printed-told f input = every-told f (linesOf input)
+
+-- So are the outputs joined, whatever the chunks in which an input comes.
+pub chunks-told : (f : List ℕ) (chunks : List (List ℕ)) → chunksRead f nothingRead chunks .output ++ endRead f (chunksRead f nothingRead chunks .reading) ≡ told f (inputOf chunks)
+chunks-told f chunks = whatever-the-chunks f chunks ∙ printed-told f (inputOf chunks)
