@@ -24,7 +24,7 @@ use Rattle.streams.specs.declared.reading.Got.the-variants as got
 use Rattle.streams.specs.Outcomes.{failureOf, outcomeOf, gotOf, takenOf, Some, Within, Gives}
 
 -- A signed number is what its bits say.
-bits-say : (w : Width) (z : ℤ) (n : ℕ) → SFits w z → ofZ w z ≡ n → toZ w n ≡ z
+pub bits-say : (w : Width) (z : ℤ) (n : ℕ) → SFits w z → ofZ w z ≡ n → toZ w n ≡ z
 bits-say w z n f p = sym (ap (toZ w) p) ∙ toZ-ofZ f
 
 -- ---- a call that failed
@@ -151,3 +151,13 @@ pub none-whole : (n size : ℕ) → n ≤ size → (size ≡ 0 → eqb n size �
 none-whole n size p e = eq-eqb n size (omega arith)
 
 pub ruleset whole = (none-whole, needs)
+
+-- ---- more bytes than there are can't be printed
+
+pub too-many : (size n : ℕ) → (size < n → _≡_ {A = Bool} false false)
+too-many size n p = refl
+
+pub not-too-many : (size n : ℕ) → n ≤ size → (size < n → _≡_ {A = Bool} true false)
+not-too-many size n p q = absurd (omega arith)
+
+pub ruleset printing = (too-many, not-too-many, needs)

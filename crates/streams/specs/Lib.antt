@@ -1,2 +1,3 @@
 -- What moving bytes to and from the system comes to.
 pub mod Outcomes
+pub mod Endings
