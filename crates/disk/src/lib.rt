@@ -1,0 +1,11 @@
+// Files read whole, and written whole or not at all; every failure is told with its error number.
+pub use files::FileRead;
+pub use files::read_file;
+pub use files::read_input;
+pub use saving::Saved;
+pub use saving::save;
+
+mod faults;
+mod files;
+mod looking;
+mod saving;
