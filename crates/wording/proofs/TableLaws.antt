@@ -1,0 +1,66 @@
+-- Every row of the reply table has words, and none has more bytes than there is room for.
+-- Assumes nothing.
+use mathlib.Core.Path.{_≡_}
+use mathlib.Core.Bool.{Bool}
+use mathlib.Core.List.{List}
+use Prim.Native.Nat.{ℕ, _+_, _<_, _≤_}
+use native.Mathlib.Omega.{arith}
+use lib.ListN.{length}
+use borrow.Author.Needs.{needs}
+use Rattle.ascii.specs.Laying.{Laid}
+use Rattle.contents.specs.declared.Fault.{Fault}
+use Rattle.contents.specs.declared.Fault.the-variants.{FileShort, BadCount, BadOffset, BadLength, BadEvent, BadItem, BadMessage, TextLeft, NoMessage}
+use Rattle.session.specs.declared.Refusal.{Refusal}
+use Rattle.session.specs.declared.Refusal.the-variants.{MemoryShort, RoomShort, File, BadTempo, NoSession, NoEvent, NotAfter, BadMillis, ClockFull}
+use Rattle.wording.specs.Words.{faultWords, refusalWords, mostWords, faultPlaced, placed}
+
+-- ---- how many bytes the words have
+
+fault-most : (x : Fault) → (0 < length (faultWords x)) × (length (faultWords x) ≤ mostWords)
+unfolding faultWords
+fault-most FileShort = (omega arith, omega arith)
+fault-most (BadCount at) = (omega arith, omega arith)
+fault-most (BadOffset at) = (omega arith, omega arith)
+fault-most BadLength = (omega arith, omega arith)
+fault-most (BadEvent at) = (omega arith, omega arith)
+fault-most (BadItem at) = (omega arith, omega arith)
+fault-most (BadMessage at) = (omega arith, omega arith)
+fault-most TextLeft = (omega arith, omega arith)
+fault-most NoMessage = (omega arith, omega arith)
+
+pub words-told : (x : Refusal) → (0 < length (refusalWords x)) × (length (refusalWords x) ≤ mostWords)
+unfolding refusalWords
+words-told MemoryShort = (omega arith, omega arith)
+words-told RoomShort = (omega arith, omega arith)
+words-told (File x) = fault-most x
+words-told BadTempo = (omega arith, omega arith)
+words-told NoSession = (omega arith, omega arith)
+words-told NoEvent = (omega arith, omega arith)
+words-told NotAfter = (omega arith, omega arith)
+words-told BadMillis = (omega arith, omega arith)
+words-told ClockFull = (omega arith, omega arith)
+
+-- ---- the row of a case is the row of what is this case
+
+module _ {o m words : List ℕ} {at r : ℕ} where
+  pub fault-case : {x y : Fault} → x ≡ y → Laid o at words m r → faultWords y ≡ words → Laid o at (faultWords x) m r × (r ≤ at + mostWords)
+  fault-case {x} {y} e laid p =
+      let s : r ≡ at + length words = laid .stop in
+      (rw (e, p) laid, omega (arith, rw p at (fault-most y)))
+
+  pub words-case : {x y : Refusal} → x ≡ y → Laid o at words m r → refusalWords y ≡ words → Laid o at (refusalWords x) m r × (r ≤ at + mostWords)
+  words-case {x} {y} e laid p =
+      let s : r ≡ at + length words = laid .stop in
+      (rw (e, p) laid, omega (arith, rw p at (words-told y)))
+
+pub words-file : (o m : List ℕ) (at r : ℕ) (x : Refusal) (f : Fault) → x ≡ File f → Laid o at (faultWords f) m r → Laid o at (refusalWords x) m r
+unfolding refusalWords
+words-file o m at r x f e laid = rw e laid
+
+pub fault-placed-case : (x y : Fault) (r : Bool) → x ≡ y → r ≡ faultPlaced y → r ≡ faultPlaced x
+fault-placed-case x y r e p = rw e p
+
+pub placed-case : (x y : Refusal) (r : Bool) → x ≡ y → r ≡ placed y → r ≡ placed x
+placed-case x y r e p = rw e p
+
+pub ruleset rows = (words-file, fault-placed-case, placed-case, needs)

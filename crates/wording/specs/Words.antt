@@ -1,0 +1,115 @@
+-- The reply table for people, row by row, and the whole of it.
+use Prim.Native.Nat.{ℕ}
+use mathlib.Core.Bool.{Bool, true, false}
+use mathlib.Core.List.{List, [], _∷_, _++_}
+use Rattle.ascii.specs.Words.{space, newline}
+use Rattle.ascii.specs.Decimals.{decimal}
+use Rattle.contents.specs.declared.Fault.{Fault}
+use Rattle.contents.specs.declared.Fault.the-variants.{FileShort, BadCount, BadOffset, BadLength, BadEvent, BadItem, BadMessage, TextLeft, NoMessage}
+use Rattle.session.specs.declared.Refusal.{Refusal}
+use Rattle.session.specs.declared.Refusal.the-variants.{MemoryShort, RoomShort, File, BadTempo, NoSession, NoEvent, NotAfter, BadMillis, ClockFull}
+use Rattle.session.specs.Replies.{refusalRow}
+use Rattle.ascii.specs.Text.{bytesOf}
+
+-- The words of its column 'When', letter for letter.
+unfoldable pub faultWords : Fault → List ℕ
+faultWords FileShort = bytesOf "file under 32 bytes"
+faultWords (BadCount at) = bytesOf "a count outside its limits"
+faultWords (BadOffset at) = bytesOf "an offset not as above"
+faultWords BadLength = bytesOf "offsets right, file length wrong"
+faultWords (BadEvent at) = bytesOf "an event's duration"
+faultWords (BadItem at) = bytesOf "an item against the rules; also the 1,025th action"
+faultWords (BadMessage at) = bytesOf "a message entry or its label bytes"
+faultWords TextLeft = bytesOf "entries right, text not used up"
+faultWords NoMessage = bytesOf "no such message"
+
+unfoldable pub refusalWords : Refusal → List ℕ
+refusalWords MemoryShort = bytesOf "session memory under 8,192 words (u64)"
+refusalWords RoomShort = bytesOf "send room under 2,048 words (u64)"
+refusalWords (File x) = faultWords x
+refusalWords BadTempo = bytesOf "tempo outside 1 to 50,400"
+refusalWords NoSession = bytesOf "not a session"
+refusalWords NoEvent = bytesOf "event number 0 or above the last"
+refusalWords NotAfter = bytesOf "event not after the last one heard"
+refusalWords BadMillis = bytesOf "milliseconds outside 1 to 1,000"
+refusalWords ClockFull = bytesOf "the clock would pass 10^15"
+
+-- The longest of them are the item's.
+abbrev pub mostWords : ℕ
+mostWords = 50
+
+-- Whether the table's column 'Place' names a byte of the file. BadOffset at byte 0 does, BadLength with the same number and place does not.
+unfoldable pub faultPlaced : Fault → Bool
+faultPlaced FileShort = false
+faultPlaced (BadCount at) = true
+faultPlaced (BadOffset at) = true
+faultPlaced BadLength = false
+faultPlaced (BadEvent at) = true
+faultPlaced (BadItem at) = true
+faultPlaced (BadMessage at) = true
+faultPlaced TextLeft = true
+faultPlaced NoMessage = false
+
+unfoldable pub placed : Refusal → Bool
+placed MemoryShort = false
+placed RoomShort = false
+placed (File x) = faultPlaced x
+placed BadTempo = false
+placed NoSession = false
+placed NoEvent = false
+placed NotAfter = false
+placed BadMillis = false
+placed ClockFull = false
+
+-- Every row of the table in its order; where a row's place is a number, any stands for it.
+unfoldable pub refusalRows : List Refusal
+refusalRows =
+    MemoryShort
+    ∷ RoomShort
+    ∷ File FileShort
+    ∷ File (BadCount 4)
+    ∷ File (BadOffset 0)
+    ∷ File BadLength
+    ∷ File (BadEvent 32)
+    ∷ File (BadItem 36)
+    ∷ File (BadMessage 36)
+    ∷ File TextLeft
+    ∷ BadTempo
+    ∷ NoSession
+    ∷ NoEvent
+    ∷ NotAfter
+    ∷ BadMillis
+    ∷ ClockFull
+    ∷ File NoMessage
+    ∷ []
+
+-- How many they are.
+abbrev pub rowCount : ℕ
+rowCount = 17
+
+-- "0 | done", the row that is no refusal.
+abbrev pub doneNumber : ℕ
+doneNumber = 0
+
+abbrev pub doneWords : List ℕ
+doneWords = bytesOf "done"
+
+-- A row's line: its number and its words, as `7 an item against the rules; also the 1,025th action`.
+unfoldable pub replyLine : (number : ℕ) (words : List ℕ) → List ℕ
+replyLine number words = decimal number ++ (space ∷ (words ++ (newline ∷ [])))
+
+-- Room for a row's line: a number of 20 digits, the longest words, and a space and a newline.
+abbrev pub rowRoom : ℕ
+rowRoom = 72
+
+-- The lines of these rows, one behind the other.
+unfoldable pub rowLines : List Refusal → List ℕ
+rowLines [] = []
+rowLines (x ∷ xs) = replyLine (refusalRow x .number) (refusalWords x) ++ rowLines xs
+
+-- The whole table, a line for each row, and room for it.
+unfoldable pub replyLines : List ℕ
+replyLines = replyLine doneNumber doneWords ++ rowLines refusalRows
+
+abbrev pub repliesRoom : ℕ
+repliesRoom = 2048

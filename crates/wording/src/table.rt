@@ -1,0 +1,83 @@
+// The reply table, row by row: the words of its column 'When', and whether its column 'Place' names a byte.
+ghost use mathlib.Core.Path.{_≡_};
+ghost use Prim.Native.Nat.{_+_, _≤_};
+ghost use lib.ListN.{length};
+ghost use Rattle.ascii.specs.Laying.{Laid};
+ghost use Rattle.wording.specs.Words.{faultWords, refusalWords, mostWords, faultPlaced, placed};
+use ascii::put_bytes;
+use contents::Fault;
+use session::Refusal;
+
+// The words of a fault behind the first `at` bytes. Answers where the next byte goes.
+fn put_fault_words(out: &mut [u8], at: usize, x: Fault) -> usize
+    requires { ⌜ at + mostWords ≤ length (now out) ⌝ }
+    ensures { λ r. ⌜ Laid (now (out .entry)) at (faultWords x) (now (out .exit)) r × (r ≤ at + mostWords) ⌝ }
+{
+    match x {
+        Fault::FileShort => put_bytes(out, at, b"file under 32 bytes"),
+        Fault::BadCount(_) => put_bytes(out, at, b"a count outside its limits"),
+        Fault::BadOffset(_) => put_bytes(out, at, b"an offset not as above"),
+        Fault::BadLength => put_bytes(out, at, b"offsets right, file length wrong"),
+        Fault::BadEvent(_) => put_bytes(out, at, b"an event's duration"),
+        Fault::BadItem(_) => put_bytes(
+            out,
+            at,
+            b"an item against the rules; also the 1,025th action",
+        ),
+        Fault::BadMessage(_) => put_bytes(out, at, b"a message entry or its label bytes"),
+        Fault::TextLeft => put_bytes(out, at, b"entries right, text not used up"),
+        Fault::NoMessage => put_bytes(out, at, b"no such message"),
+    }
+}
+
+// The same for every refusal.
+pub fn put_words(out: &mut [u8], at: usize, x: Refusal) -> usize
+    requires { ⌜ at + mostWords ≤ length (now out) ⌝ }
+    ensures { λ r. ⌜ Laid (now (out .entry)) at (refusalWords x) (now (out .exit)) r × (r ≤ at + mostWords) ⌝ }
+{
+    match x {
+        Refusal::MemoryShort => put_bytes(out, at, b"session memory under 8,192 words (u64)"),
+        Refusal::RoomShort => put_bytes(out, at, b"send room under 2,048 words (u64)"),
+        Refusal::File(f) => put_fault_words(out, at, f),
+        Refusal::BadTempo => put_bytes(out, at, b"tempo outside 1 to 50,400"),
+        Refusal::NoSession => put_bytes(out, at, b"not a session"),
+        Refusal::NoEvent => put_bytes(out, at, b"event number 0 or above the last"),
+        Refusal::NotAfter => put_bytes(out, at, b"event not after the last one heard"),
+        Refusal::BadMillis => put_bytes(out, at, b"milliseconds outside 1 to 1,000"),
+        Refusal::ClockFull => put_bytes(out, at, b"the clock would pass 10^15"),
+    }
+}
+
+// Whether the fault is at a byte of the file.
+fn fault_placed(x: Fault) -> bool
+    ensures { λ r. ⌜ r ≡ faultPlaced x ⌝ }
+{
+    match x {
+        Fault::FileShort => false,
+        Fault::BadCount(_) => true,
+        Fault::BadOffset(_) => true,
+        Fault::BadLength => false,
+        Fault::BadEvent(_) => true,
+        Fault::BadItem(_) => true,
+        Fault::BadMessage(_) => true,
+        Fault::TextLeft => true,
+        Fault::NoMessage => false,
+    }
+}
+
+// The same for every refusal.
+pub fn placed(x: Refusal) -> bool
+    ensures { λ r. ⌜ r ≡ placed x ⌝ }
+{
+    match x {
+        Refusal::MemoryShort => false,
+        Refusal::RoomShort => false,
+        Refusal::File(f) => fault_placed(f),
+        Refusal::BadTempo => false,
+        Refusal::NoSession => false,
+        Refusal::NoEvent => false,
+        Refusal::NotAfter => false,
+        Refusal::BadMillis => false,
+        Refusal::ClockFull => false,
+    }
+}
