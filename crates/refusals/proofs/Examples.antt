@@ -1,37 +1,77 @@
--- Lines of refusals, worked out by the definitions.
+-- Lines of refusals, and the entries of places, worked out by the definitions.
 -- Assumes nothing.
 use mathlib.Core.Path.{_≡_, refl}
+use mathlib.Core.List.{List, [], _∷_}
+use Prim.Native.Nat.{ℕ}
 use Rattle.base.specs.Tests.{pick}
 use Rattle.ascii.specs.Decimals.{digitsOf, decimal}
+use Rattle.ascii.specs.Text.{bytesOf}
+use Rattle.contents.specs.declared.Counts.{Counts}
+use Rattle.contents.specs.Bytes.{u16At, u32At}
+use Rattle.contents.specs.Contents.{countsOf}
 use Rattle.contents.specs.Replies.{faultRow}
-use Rattle.contents.specs.declared.Fault.the-variants.{FileShort, BadOffset, BadLength, BadItem, TextLeft}
+use Rattle.contents.specs.declared.Fault.the-variants.{FileShort, BadCount, BadOffset, BadLength, BadEvent, BadItem, BadMessage, TextLeft}
 use Rattle.session.specs.Replies.{refusalRow}
 use Rattle.session.specs.declared.Refusal.the-variants.{File, BadTempo}
-use Rattle.ascii.specs.Text.{bytesOf}
-use Rattle.refusals.specs.Words.{faultWords, refusalWords, faultPlaced, placed}
-use Rattle.refusals.specs.Line.{atByte, placeWords, refusalLine}
+use Rattle.refusals.specs.declared.entries.Entry.the-variants.{Nowhere, Contents, Event, Item, Message}
+use Rattle.wording.specs.Words.{faultWords, refusalWords, faultPlaced, placed}
+use Rattle.refusals.specs.Entries.{entryAt, entryOf, fieldWords, entryWords}
+use Rattle.refusals.specs.Line.{atByte, placeWords, whereWords, refusalLine}
 
-pub bad-item : refusalLine (bytesOf "score.bin") (File (BadItem 116)) ≡ bytesOf "score.bin: refused 7 at byte 116: an item against the rules; also the 1,025th action\n"
-unfolding pick digitsOf decimal faultRow refusalRow faultWords refusalWords faultPlaced placed atByte placeWords refusalLine
+-- A file's contents: 3 events from byte 32 on, 7 items from 44 on, 2 messages from 128 on, 5 bytes of text from 136 on.
+unfoldable pub contents : List ℕ
+contents =
+    32 ∷ 0 ∷ 0 ∷ 0 ∷ 3 ∷ 0 ∷ 0 ∷ 0
+    ∷ 44 ∷ 0 ∷ 0 ∷ 0 ∷ 7 ∷ 0 ∷ 0 ∷ 0
+    ∷ 128 ∷ 0 ∷ 0 ∷ 0 ∷ 2 ∷ 0 ∷ 0 ∷ 0
+    ∷ 136 ∷ 0 ∷ 0 ∷ 0 ∷ 5 ∷ 0 ∷ 0 ∷ 0
+    ∷ []
+
+-- ---- lines
+
+pub bad-item : refusalLine (bytesOf "old.bin") contents (File (BadItem 116)) ≡ bytesOf "old.bin: refused 7 at byte 116, item 6: an item against the rules; also the 1,025th action\n"
+unfolding contents pick digitsOf decimal u16At u32At countsOf faultRow refusalRow faultWords refusalWords faultPlaced placed entryAt entryOf fieldWords entryWords atByte placeWords whereWords refusalLine
 bad-item = refl
 
-pub file-short : refusalLine (bytesOf "score.bin") (File FileShort) ≡ bytesOf "score.bin: refused 3: file under 32 bytes\n"
-unfolding pick digitsOf decimal faultRow refusalRow faultWords refusalWords faultPlaced placed atByte placeWords refusalLine
+pub bad-event : refusalLine (bytesOf "old.bin") contents (File (BadEvent 40)) ≡ bytesOf "old.bin: refused 6 at byte 40, event 3: an event's duration\n"
+unfolding contents pick digitsOf decimal u16At u32At countsOf faultRow refusalRow faultWords refusalWords faultPlaced placed entryAt entryOf fieldWords entryWords atByte placeWords whereWords refusalLine
+bad-event = refl
+
+pub bad-message : refusalLine (bytesOf "old.bin") contents (File (BadMessage 132)) ≡ bytesOf "old.bin: refused 8 at byte 132, message 1: a message entry or its label bytes\n"
+unfolding contents pick digitsOf decimal u16At u32At countsOf faultRow refusalRow faultWords refusalWords faultPlaced placed entryAt entryOf fieldWords entryWords atByte placeWords whereWords refusalLine
+bad-message = refl
+
+pub bad-count : refusalLine (bytesOf "old.bin") contents (File (BadCount 28)) ≡ bytesOf "old.bin: refused 4 at byte 28, count of text bytes: a count outside its limits\n"
+unfolding contents pick digitsOf decimal u16At u32At countsOf faultRow refusalRow faultWords refusalWords faultPlaced placed entryAt entryOf fieldWords entryWords atByte placeWords whereWords refusalLine
+bad-count = refl
+
+pub file-short : refusalLine (bytesOf "score.bin") [] (File FileShort) ≡ bytesOf "score.bin: refused 3: file under 32 bytes\n"
+unfolding contents pick digitsOf decimal u16At u32At countsOf faultRow refusalRow faultWords refusalWords faultPlaced placed entryAt entryOf fieldWords entryWords atByte placeWords whereWords refusalLine
 file-short = refl
 
-pub bad-tempo : refusalLine (bytesOf "line 1") BadTempo ≡ bytesOf "line 1: refused 9: tempo outside 1 to 50,400\n"
-unfolding pick digitsOf decimal faultRow refusalRow faultWords refusalWords faultPlaced placed atByte placeWords refusalLine
+pub bad-tempo : refusalLine (bytesOf "line 1") contents BadTempo ≡ bytesOf "line 1: refused 9: tempo outside 1 to 50,400\n"
+unfolding contents pick digitsOf decimal u16At u32At countsOf faultRow refusalRow faultWords refusalWords faultPlaced placed entryAt entryOf fieldWords entryWords atByte placeWords whereWords refusalLine
 bad-tempo = refl
 
 -- the first offset is at byte 0, and a wrong length is at none; what is left of the text is told at the text's offset
-pub bad-offset : refusalLine (bytesOf "score.bin") (File (BadOffset 0)) ≡ bytesOf "score.bin: refused 5 at byte 0: an offset not as above\n"
-unfolding pick digitsOf decimal faultRow refusalRow faultWords refusalWords faultPlaced placed atByte placeWords refusalLine
+pub bad-offset : refusalLine (bytesOf "score.bin") contents (File (BadOffset 0)) ≡ bytesOf "score.bin: refused 5 at byte 0, offset of the events: an offset not as above\n"
+unfolding contents pick digitsOf decimal u16At u32At countsOf faultRow refusalRow faultWords refusalWords faultPlaced placed entryAt entryOf fieldWords entryWords atByte placeWords whereWords refusalLine
 bad-offset = refl
 
-pub bad-length : refusalLine (bytesOf "score.bin") (File BadLength) ≡ bytesOf "score.bin: refused 5: offsets right, file length wrong\n"
-unfolding pick digitsOf decimal faultRow refusalRow faultWords refusalWords faultPlaced placed atByte placeWords refusalLine
+pub bad-length : refusalLine (bytesOf "score.bin") contents (File BadLength) ≡ bytesOf "score.bin: refused 5: offsets right, file length wrong\n"
+unfolding contents pick digitsOf decimal u16At u32At countsOf faultRow refusalRow faultWords refusalWords faultPlaced placed entryAt entryOf fieldWords entryWords atByte placeWords whereWords refusalLine
 bad-length = refl
 
-pub text-left : refusalLine (bytesOf "score.bin") (File TextLeft) ≡ bytesOf "score.bin: refused 8 at byte 24: entries right, text not used up\n"
-unfolding pick digitsOf decimal faultRow refusalRow faultWords refusalWords faultPlaced placed atByte placeWords refusalLine
+pub text-left : refusalLine (bytesOf "score.bin") contents (File TextLeft) ≡ bytesOf "score.bin: refused 8 at byte 24, offset of the text: entries right, text not used up\n"
+unfolding contents pick digitsOf decimal u16At u32At countsOf faultRow refusalRow faultWords refusalWords faultPlaced placed entryAt entryOf fieldWords entryWords atByte placeWords whereWords refusalLine
 text-left = refl
+
+-- ---- entries, at the first and the last byte of each table
+
+unfoldable pub counts : Counts
+counts = record { events = 3; items = 7; messages = 2; text = 5 }
+
+pub each-table : (entryAt counts 31 ∷ entryAt counts 32 ∷ entryAt counts 43 ∷ entryAt counts 44 ∷ entryAt counts 127 ∷ entryAt counts 128 ∷ entryAt counts 135 ∷ entryAt counts 136 ∷ [])
+    ≡ (Contents 7 ∷ Event 1 ∷ Event 3 ∷ Item 0 ∷ Item 6 ∷ Message 0 ∷ Message 1 ∷ Nowhere ∷ [])
+unfolding counts pick entryAt
+each-table = refl

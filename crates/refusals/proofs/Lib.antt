@@ -1,5 +1,5 @@
--- Laws of the reply table's words, for the proofs of several functions and for the program above.
-pub mod TableLaws
-pub mod Apart
+-- Laws of the entries of a file and of a refusal's line, for the proofs of several functions and for the programs above.
+pub mod EntryLaws
 pub mod LineLaws
+pub mod NameLaws
 pub mod Examples

@@ -1,3 +1,3 @@
--- The reply table's words, and the line that tells people of a refusal.
-pub mod Words
+-- The entry that a byte of a file lies in, and the line that tells people of a refusal.
+pub mod Entries
 pub mod Line

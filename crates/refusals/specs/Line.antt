@@ -1,4 +1,4 @@
--- The line that tells people of a refusal, as `score.bin: refused 7 at byte 116: an item against the rules; also the 1,025th action`.
+-- The line that tells people of a refusal, as `old.bin: refused 7 at byte 116, item 6: an item against the rules; also the 1,025th action`.
 use Prim.Native.Nat.{ℕ}
 use mathlib.Core.List.{List, [], _∷_, _++_}
 use Rattle.base.specs.Tests.{pick}
@@ -7,7 +7,8 @@ use Rattle.ascii.specs.Decimals.{decimal}
 use Rattle.session.specs.declared.Refusal.{Refusal}
 use Rattle.session.specs.Replies.{refusalRow}
 use Rattle.ascii.specs.Text.{bytesOf}
-use Rattle.refusals.specs.Words.{refusalWords, placed}
+use Rattle.wording.specs.Words.{refusalWords, placed}
+use Rattle.refusals.specs.Entries.{entryOf, entryWords}
 
 -- A place in the file, and room for it: its word, and a number of 20 digits.
 unfoldable pub atByte : ℕ → List ℕ
@@ -20,11 +21,15 @@ placeRoom = 29
 unfoldable pub placeWords : Refusal → List ℕ
 placeWords x = pick (placed x) (atByte (refusalRow x .place)) []
 
+-- The place, and the entry that it lies in, as ` at byte 116, item 6`.
+unfoldable pub whereWords : (file : List ℕ) → Refusal → List ℕ
+whereWords file x = placeWords x ++ entryWords (entryOf file x)
+
 -- What is refused, then the table's row: number, place and words.
-unfoldable pub refusalLine : (name : List ℕ) → Refusal → List ℕ
-refusalLine name x =
-    name ++ (bytesOf ": refused " ++ (decimal (refusalRow x .number) ++ (placeWords x ++ (bytesOf ": " ++ (refusalWords x ++ (newline ∷ []))))))
+unfoldable pub refusalLine : (name file : List ℕ) → Refusal → List ℕ
+refusalLine name file x =
+    name ++ (bytesOf ": refused " ++ (decimal (refusalRow x .number) ++ (whereWords file x ++ (bytesOf ": " ++ (refusalWords x ++ (newline ∷ []))))))
 
 -- Room for the line of any refusal, without its name.
 abbrev pub refusalRoom : ℕ
-refusalRoom = 128
+refusalRoom = 160

@@ -1,5 +1,7 @@
-// The reply table's words, for people: the line that tells of a refusal, laid out on lent bytes.
+// A refusal told to people, laid out on lent bytes: its line, with the entry at fault.
+pub use entries::Entry;
+pub use entries::entry_at;
 pub use line::refusal_line;
 
+mod entries;
 mod line;
-mod table;

@@ -9,6 +9,7 @@ put-place-spec =
     tie.close
     (tie.spec
     (λ c κs. search places)
+    (λ c. search places)
     (λ c κs. search places)
     (λ c κs. search places)
     (λ c. search places)

@@ -1,0 +1,57 @@
+-- The name of an entry is laid as its case has it, and has no more bytes than there is room for.
+-- Assumes nothing.
+use mathlib.Core.Path.{_≡_}
+use mathlib.Core.Bool.{true}
+use mathlib.Core.List.{List, [], _++_}
+use Prim.Native.Nat.{ℕ, _+_, _≤_}
+use native.Mathlib.Omega.{arith}
+use lib.Dec.{leb}
+use lib.ListN.{length, getD, List·getD-eq-default}
+use borrow.Author.Needs.{needs}
+use borrow.Author.Tests.{leb-true}
+use Rattle.ascii.specs.Decimals.{decimal}
+use Rattle.ascii.specs.Laying.{Laid}
+use Rattle.ascii.specs.Text.{bytesOf}
+use Rattle.refusals.specs.declared.entries.Entry.{Entry}
+use Rattle.refusals.specs.declared.entries.Entry.the-variants.{Nowhere, Contents, Event, Item, Message}
+use Rattle.refusals.specs.Entries.{fieldWords, fieldCount, entryWords, entryRoom}
+use Rattle.wording.proofs.FigureLaws.{laid-nothing}
+
+-- ---- a field of the contents
+
+pub field-case : {o m words : List ℕ} {at r i k : ℕ} → i ≡ k → Laid o at words m r → getD fieldWords k [] ≡ words → leb (length words) entryRoom ≡ true
+    → Laid o at (getD fieldWords i []) m r × (r ≤ at + entryRoom)
+field-case {o} {m} {words} {at} {r} e laid p q =
+    let s : r ≡ at + length words = laid .stop in
+    let l : length words ≤ entryRoom = leb-true (length words) entryRoom q in
+    (rw (e, p) laid, omega arith)
+
+pub field-none : (o : List ℕ) (at i : ℕ) → fieldCount ≤ i → at + entryRoom ≤ length o → Laid o at (getD fieldWords i []) o at × (at ≤ at + entryRoom)
+unfolding fieldWords
+field-none o at i p q = (rw (List·getD-eq-default fieldWords [] {n = i} p) (laid-nothing o at (omega arith)), omega arith)
+
+-- ---- an entry
+
+module _ (o : List ℕ) (at : ℕ) (e : Entry) where
+  pub name-none : e ≡ Nowhere → at + entryRoom ≤ length o → Laid o at (entryWords e) o at
+  unfolding entryWords
+  name-none p q = rw p (laid-nothing o at (omega arith))
+
+  module _ (m : List ℕ) (r k : ℕ) where
+    pub name-field : e ≡ Contents k → Laid o at (getD fieldWords k []) m r → Laid o at (entryWords e) m r
+    unfolding entryWords
+    name-field p l = rw p l
+
+    pub name-event : e ≡ Event k → Laid o at (bytesOf ", event " ++ decimal k) m r → Laid o at (entryWords e) m r
+    unfolding entryWords
+    name-event p l = rw p l
+
+    pub name-item : e ≡ Item k → Laid o at (bytesOf ", item " ++ decimal k) m r → Laid o at (entryWords e) m r
+    unfolding entryWords
+    name-item p l = rw p l
+
+    pub name-message : e ≡ Message k → Laid o at (bytesOf ", message " ++ decimal k) m r → Laid o at (entryWords e) m r
+    unfolding entryWords
+    name-message p l = rw p l
+
+pub ruleset naming = (name-none, name-field, name-event, name-item, name-message, needs)

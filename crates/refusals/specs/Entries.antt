@@ -1,0 +1,60 @@
+-- Which entry of a score file a byte lies in, and its name for people.
+use Prim.Native.Nat.{ℕ, _+_, _-_, _/_}
+use mathlib.Core.List.{List, [], _∷_, _++_}
+use lib.Dec.{leb, ltb}
+use lib.ListN.{length, getD}
+use Rattle.base.specs.Tests.{pick}
+use Rattle.ascii.specs.Decimals.{decimal}
+use Rattle.ascii.specs.Text.{bytesOf}
+use Rattle.contents.specs.declared.Counts.{Counts}
+use Rattle.contents.specs.Limits.{contentsSize, eventSize, itemSize, messageSize}
+use Rattle.contents.specs.Contents.{countsOf, eventsAt, itemsAt, messagesAt, textAt}
+use Rattle.session.specs.declared.Refusal.{Refusal}
+use Rattle.session.specs.Replies.{refusalRow}
+use Rattle.refusals.specs.declared.entries.Entry.{Entry}
+use Rattle.refusals.specs.declared.entries.Entry.the-variants.{Nowhere, Contents, Event, Item, Message}
+use Rattle.wording.specs.Words.{placed}
+
+-- An offset or a count in the table of contents is a u32.
+abbrev pub fieldSize : ℕ
+fieldSize = 4
+
+-- The entry that holds this byte. Events are numbered from 1; fields of the contents, items and messages from 0.
+unfoldable pub entryAt : Counts → ℕ → Entry
+entryAt c at =
+    pick (ltb at eventsAt) (Contents (at / fieldSize))
+    (pick (ltb at (itemsAt c)) (Event (1 + (at - eventsAt) / eventSize))
+    (pick (ltb at (messagesAt c)) (Item ((at - itemsAt c) / itemSize))
+    (pick (ltb at (textAt c)) (Message ((at - messagesAt c) / messageSize)) Nowhere)))
+
+-- The entry at fault, where the refusal has a place and the file has its contents.
+unfoldable pub entryOf : List ℕ → Refusal → Entry
+entryOf f x = pick (placed x) (pick (leb contentsSize (length f)) (entryAt (countsOf f) (refusalRow x .place)) Nowhere) Nowhere
+
+-- The names of the contents' fields, in their order.
+unfoldable pub fieldWords : List (List ℕ)
+fieldWords =
+    bytesOf ", offset of the events"
+    ∷ bytesOf ", count of events"
+    ∷ bytesOf ", offset of the items"
+    ∷ bytesOf ", count of items"
+    ∷ bytesOf ", offset of the messages"
+    ∷ bytesOf ", count of messages"
+    ∷ bytesOf ", offset of the text"
+    ∷ bytesOf ", count of text bytes"
+    ∷ []
+
+-- How many they are.
+abbrev pub fieldCount : ℕ
+fieldCount = 8
+
+-- An entry's name, and room for it: its word, and a number of 20 digits.
+unfoldable pub entryWords : Entry → List ℕ
+entryWords Nowhere = []
+entryWords (Contents k) = getD fieldWords k []
+entryWords (Event n) = bytesOf ", event " ++ decimal n
+entryWords (Item n) = bytesOf ", item " ++ decimal n
+entryWords (Message n) = bytesOf ", message " ++ decimal n
+
+abbrev pub entryRoom : ℕ
+entryRoom = 30

@@ -1,0 +1,95 @@
+// Which entry of a score file a byte lies in, and its name for people.
+ghost use mathlib.Core.Path.{_≡_};
+ghost use mathlib.Core.List.{[]};
+ghost use Prim.Native.Nat.{_+_, _≤_};
+ghost use lib.ListN.{length, getD};
+ghost use Rattle.ascii.specs.Laying.{Laid};
+ghost use Rattle.refusals.specs.Entries.{entryAt, entryOf, entryWords, entryRoom, fieldWords};
+use ascii::put_bytes;
+use contents::Counts;
+use contents::limits::CONTENTS_SIZE;
+use contents::limits::EVENT_SIZE;
+use contents::limits::ITEM_SIZE;
+use contents::limits::MESSAGE_SIZE;
+use session::Refusal;
+use session::refusal_row;
+use wording::placed;
+use wording::put_counted;
+
+// A field of the table of contents, an event from 1, an item by its page place, or a message from 0.
+pub enum Entry {
+    Nowhere,
+    Contents(usize),
+    Event(usize),
+    Item(usize),
+    Message(usize),
+}
+
+const FIELD_SIZE: usize = 4;
+
+// The entry that holds the byte `at` in a file of these counts, whatever they are: what is behind a table is compared by division, so that nothing wraps.
+pub fn entry_at(c: Counts, at: usize) -> Entry
+    ensures { λ r. ⌜ r ≡ entryAt c at ⌝ }
+{
+    if at < CONTENTS_SIZE {
+        return Entry::Contents(at / FIELD_SIZE);
+    }
+    let past = at - CONTENTS_SIZE;
+    if past / EVENT_SIZE < c.events {
+        return Entry::Event(1 + past / EVENT_SIZE);
+    }
+    let past = past - EVENT_SIZE * c.events;
+    if past / ITEM_SIZE < c.items {
+        return Entry::Item(past / ITEM_SIZE);
+    }
+    let past = past - ITEM_SIZE * c.items;
+    if past / MESSAGE_SIZE < c.messages {
+        return Entry::Message(past / MESSAGE_SIZE);
+    }
+    Entry::Nowhere
+}
+
+// The entry at fault, by the counts that the file itself gives.
+pub fn entry_of(file: &[u8], x: Refusal) -> Entry
+    ensures { λ r. ⌜ r ≡ entryOf (now (file .entry)) x ⌝ }
+{
+    if !placed(x) {
+        return Entry::Nowhere;
+    }
+    if file.len() < CONTENTS_SIZE {
+        return Entry::Nowhere;
+    }
+    entry_at(contents::read_counts(file), refusal_row(x).place)
+}
+
+// The name of a field of the table of contents.
+fn put_field(out: &mut [u8], at: usize, k: usize) -> usize
+    requires { ⌜ at + entryRoom ≤ length (now out) ⌝ }
+    ensures { λ r. ⌜ Laid (now (out .entry)) at (getD fieldWords k []) (now (out .exit)) r × (r ≤ at + entryRoom) ⌝ }
+{
+    match k {
+        0 => put_bytes(out, at, b", offset of the events"),
+        1 => put_bytes(out, at, b", count of events"),
+        2 => put_bytes(out, at, b", offset of the items"),
+        3 => put_bytes(out, at, b", count of items"),
+        4 => put_bytes(out, at, b", offset of the messages"),
+        5 => put_bytes(out, at, b", count of messages"),
+        6 => put_bytes(out, at, b", offset of the text"),
+        7 => put_bytes(out, at, b", count of text bytes"),
+        _ => at,
+    }
+}
+
+// The name of an entry behind the first `at` bytes. Answers where the next byte goes.
+pub fn put_entry(out: &mut [u8], at: usize, e: Entry) -> usize
+    requires { ⌜ at + entryRoom ≤ length (now out) ⌝ }
+    ensures { λ r. ⌜ Laid (now (out .entry)) at (entryWords e) (now (out .exit)) r × (r ≤ at + entryRoom) ⌝ }
+{
+    match e {
+        Entry::Nowhere => at,
+        Entry::Contents(k) => put_field(out, at, k),
+        Entry::Event(n) => put_counted(out, at, b", event ", n),
+        Entry::Item(n) => put_counted(out, at, b", item ", n),
+        Entry::Message(n) => put_counted(out, at, b", message ", n),
+    }
+}
