@@ -9,3 +9,4 @@ pub mod EncodingBytes
 pub mod EncodingFiles
 pub mod EncodingReads
 pub mod EncodingPieces
+pub mod LongFile

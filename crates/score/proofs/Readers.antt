@@ -13,7 +13,7 @@ use Rattle.base.specs.Checks.{fine}
 use Rattle.base.proofs.TestLaws.{between-low, between-high}
 use Rattle.base.proofs.CheckLaws.{first-head, first-rest, first-holds}
 use Rattle.contents.specs.declared.Counts.{Counts}
-use Rattle.contents.specs.Limits.{eventSize, itemSize, longest, mostEvents, mostItems}
+use Rattle.contents.specs.Limits.{eventSize, itemSize, longest, mostEvents, mostItems, mostMessages}
 use Rattle.contents.specs.Bytes.{u32At}
 use Rattle.contents.specs.Contents.{countsOf, eventsAt, itemsAt, sizeOf}
 use Rattle.contents.specs.Inner.{Counted}
@@ -39,6 +39,9 @@ module _ (f : List ℕ) (c : Counts) (accepted : Accepted f) (e : c ≡ countsOf
 
   pub items-read : (c .items ≡ countsOf f .items) × (c .items ≤ mostItems)
   items-read = (rw e, counted-read .items)
+
+  pub messages-read : (c .messages ≡ countsOf f .messages) × (c .messages ≤ mostMessages)
+  messages-read = (rw e, counted-read .messages)
 
 -- ---- events
 

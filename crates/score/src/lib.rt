@@ -1,7 +1,7 @@
 // The score file: whether one is right and where the first fault is, what it says, and the labels of its messages.
 ghost use mathlib.Core.Path.{_≡_};
 ghost use Prim.Native.Nat.{_≤_, _<_};
-ghost use Rattle.contents.specs.Limits.{mostEvents, mostItems};
+ghost use Rattle.contents.specs.Limits.{mostEvents, mostItems, mostMessages};
 ghost use Rattle.contents.specs.Replies.{verdictOf};
 ghost use Rattle.contents.specs.Contents.{countsOf};
 ghost use Rattle.score.specs.File.{checked, Accepted};
@@ -83,7 +83,7 @@ pub fn accepted_label(file: &[u8], n: u64) -> &[u8]
     &file[start..end]
 }
 
-// How many events and items an accepted file has.
+// How many events, items and messages an accepted file has.
 pub fn event_count(file: &[u8]) -> usize
     requires { ⌜ Accepted (now file) ⌝ }
     ensures { λ r. ⌜ (r ≡ countsOf (now (file .entry)) .events) × (1 ≤ r) × (r ≤ mostEvents) ⌝ }
@@ -98,6 +98,14 @@ pub fn item_count(file: &[u8]) -> usize
 {
     let c = read_counts(file);
     c.items
+}
+
+pub fn message_count(file: &[u8]) -> usize
+    requires { ⌜ Accepted (now file) ⌝ }
+    ensures { λ r. ⌜ (r ≡ countsOf (now (file .entry)) .messages) × (r ≤ mostMessages) ⌝ }
+{
+    let c = read_counts(file);
+    c.messages
 }
 
 // The duration of event k + 1.
