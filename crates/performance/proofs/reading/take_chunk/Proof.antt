@@ -5,34 +5,34 @@ use Prim.Native.Nat.{_-_}
 use lib.ListN.{length}
 use Rattle.chunks.specs.Inner.{readingOf}
 use borrow.Author.Needs.{needs}
-use Rattle.play.proofs.ChunkSteps.{Taking, taking-step, taking-lines, onward, failed, chunks}
-use Rattle.play.proofs.take_chunk.Statement.{statement}
-use Rattle.play.proofs.take_chunk.Tie as tie
+use Rattle.performance.proofs.ChunkSteps.{Taking, taking-step, taking-lines, onward, failed, chunks}
+use Rattle.performance.proofs.reading.take_chunk.Statement.{statement}
+use Rattle.performance.proofs.reading.take_chunk.Tie as tie
 
 abbrev Inv-loop : tie.InvT-loop
-Inv-loop file mem₀ room₀ chunk line₀ out₀ at₀ p₀ refused₀ mem room line out at p refused =
+Inv-loop file score first mem₀ room₀ chunk line₀ out₀ at₀ p₀ refused₀ mem room line out at p refused =
     Taking file chunk (readingOf mem₀ room₀ line₀ p₀) (p₀ .lines) mem room line out at p
     × (length mem ≡ length mem₀) × (length room ≡ length room₀) × (length line ≡ length line₀) × (length out ≡ length out₀)
 
 abbrev μ-loop : tie.MeasureT-loop
-μ-loop file mem₀ room₀ chunk line₀ out₀ at₀ p₀ refused₀ mem room line out at p refused = length chunk - at
+μ-loop file score first mem₀ room₀ chunk line₀ out₀ at₀ p₀ refused₀ mem room line out at p refused = length chunk - at
 
 loop-less : tie.Need-loop-less Inv-loop μ-loop
 loop-less c =
     let turn = c .before .before .before .before .before .before .before .before .before .before .before in
-    onward (turn .take-line .ensures) (turn .before .before .before .before .before .loop-test .taken)
+    onward (turn .take-line .ensures .0) (turn .before .before .before .before .before .loop-test .taken)
 
 loop-again : tie.Need-loop-again Inv-loop μ-loop
 loop-again c =
     let turn = c .before .before .before .before .before .before .before .before .before .before .before in
     let test = turn .before .before .before .before .before in
-    (taking-step (test .before .loop .inv .0) (turn .take-line .ensures) (test .loop-test .taken) (search needs), search needs, search needs, search needs, search needs)
+    (taking-step (test .before .loop .inv .0) (turn .take-line .ensures .0) (test .loop-test .taken) (search needs), search needs, search needs, search needs, search needs)
 
 returns : tie.Need-returns Inv-loop μ-loop
 returns c =
     let turn = c .before .before .before .before .before .before .before .before .before .before .before in
     let test = turn .before .before .before .before .before in
-    let t = taking-step (test .before .loop .inv .0) (turn .take-line .ensures) (test .loop-test .taken) (search needs) in
+    let t = taking-step (test .before .loop .inv .0) (turn .take-line .ensures .0) (test .loop-test .taken) (search needs) in
     (t .going .kept, taking-lines _ _ _ _ _ _ _ _ _ _ t, t .going .asked, λ e. failed _ _ e)
 
 returns-2 : tie.Need-returns-2 Inv-loop μ-loop

@@ -1,0 +1,18 @@
+-- An opening that was granted is told apart first.
+-- Assumes nothing.
+use Rattle.performance.proofs.RefusalSteps.{printing}
+use Rattle.performance.proofs.said.is_refusal.Statement.{statement}
+use Rattle.performance.proofs.said.is_refusal.Tie as tie
+
+pub is-refusal-spec : {M : Type 1} → statement M
+is-refusal-spec =
+    tie.close
+    (tie.spec
+    (λ c. search printing)
+    (λ c. search printing)
+    (λ c κs. search printing)
+    (λ c. search printing)
+    (λ c. search printing)
+    (λ c. search printing)
+    (λ c κs. search printing)
+    (λ c. search printing))

@@ -1,0 +1,17 @@
+-- Whether the refusal is for the file decides which name is told.
+-- Assumes nothing.
+use Rattle.performance.proofs.SaidSteps.{refusing}
+use Rattle.performance.proofs.said.put_refusal.Statement.{statement}
+use Rattle.performance.proofs.said.put_refusal.Tie as tie
+
+pub put-refusal-spec : {M : Type 1} → statement M
+put-refusal-spec =
+    tie.close
+    (tie.spec
+    (λ c κs. search refusing)
+    (λ c κs. search refusing)
+    (λ c. search refusing)
+    (λ c. search refusing)
+    (λ c κs. search refusing)
+    (λ c. search refusing)
+    (λ c. search refusing))

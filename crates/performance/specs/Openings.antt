@@ -1,0 +1,37 @@
+-- Whether a line of the input is an opening that is refused, and how that is read off what the line printed. That both agree is a theorem (proofs/OpeningLaws).
+use Prim.Native.Nat.{ℕ}
+use mathlib.Core.Bool.{Bool, true, false, not}
+use mathlib.Core.List.{List}
+use lib.Dec.{eqb}
+use Rattle.base.specs.Tests.{pick}
+use Rattle.ascii.specs.Text.{bytesOf}
+use Rattle.ascii.specs.Words.{begins}
+use Rattle.lines.specs.declared.Command.{Command}
+use Rattle.lines.specs.declared.Command.the-variants.{Open, Hear, Pass, Bad}
+use Rattle.lines.specs.Words.{openWord}
+use Rattle.lines.specs.Commands.{commandOf, inTurn}
+use Rattle.playing.specs.Printed.{Stand, carriedBy}
+use Rattle.chunks.specs.Reading.{Reading, lineOn}
+
+-- What an opening prints that was granted begins so.
+abbrev pub grantedWord : List ℕ
+grantedWord = bytesOf "open 0 "
+
+-- What was printed is an opening's line, with another number than 0.
+unfoldable pub tellsRefusal : (printed : List ℕ) → Bool
+tellsRefusal bs = pick (begins grantedWord bs) false (begins openWord bs)
+
+-- A command is an opening, and no session is open after it.
+unfoldable pub refusedBy : (file : List ℕ) → (line : ℕ) → Stand → Command → Bool
+refusedBy f n s (Open parts tempo) = not (carriedBy f n s (Open parts tempo) .stand .opened)
+refusedBy f n s (Hear event tempo) = false
+refusedBy f n s (Pass ms) = false
+refusedBy f n s Bad = false
+
+-- Line n of the input is an opening that is refused.
+unfoldable pub openingRefused : (file : List ℕ) → (line : ℕ) → Stand → List ℕ → Bool
+openingRefused f n s l = refusedBy f n s (inTurn (eqb n 1) (s .opened) (commandOf l))
+
+-- Whether an opening has been refused, after the rest of a chunk up to its first line's end.
+unfoldable pub refusedAfter : (file : List ℕ) → Reading → (rest : List ℕ) → (refused : Bool) → Bool
+refusedAfter f r rest refused = pick (tellsRefusal (lineOn f r rest .output)) true refused

@@ -1,0 +1,46 @@
+-- The lines that tell people of a refused opening, and of an input that can't be read.
+use Prim.Native.Nat.{ℕ}
+use mathlib.Core.Bool.{Bool, true, false}
+use mathlib.Core.List.{List}
+use lib.ListN.{take}
+use Rattle.base.specs.Tests.{pick}
+use Rattle.ascii.specs.Text.{bytesOf}
+use Rattle.session.specs.declared.Refusal.{Refusal}
+use Rattle.session.specs.declared.Refusal.the-variants.{MemoryShort, RoomShort, File, BadTempo, NoSession, NoEvent, NotAfter, BadMillis, ClockFull}
+use Rattle.refusals.specs.Line.{refusalLine}
+
+-- A name is told up to this many bytes.
+abbrev pub mostName : ℕ
+mostName = 4352
+
+-- Room for any line that has a name in front.
+abbrev pub saidRoom : ℕ
+saidRoom = 4608
+
+-- What is told of a name: what is longer is cut.
+unfoldable pub toldName : List ℕ → List ℕ
+toldName name = take mostName name
+
+-- Whether a refusal is for what is in the score file.
+unfoldable pub ofFile : Refusal → Bool
+ofFile MemoryShort = false
+ofFile RoomShort = false
+ofFile (File x) = true
+ofFile BadTempo = false
+ofFile NoSession = false
+ofFile NoEvent = false
+ofFile NotAfter = false
+ofFile BadMillis = false
+ofFile ClockFull = false
+
+-- What is refused: the score, or the first line of the commands.
+unfoldable pub refusedName : (score first : List ℕ) → Refusal → List ℕ
+refusedName score first x = pick (ofFile x) score first
+
+-- The line of a refusal of what has this name, with the entry of the score's bytes that is at fault.
+unfoldable pub refusedLine : (name file : List ℕ) → Refusal → List ℕ
+refusedLine name file x = refusalLine (toldName name) file x
+
+-- What stands behind the name of an input that can't be read. The reason follows it.
+abbrev pub unreadableWords : List ℕ
+unreadableWords = bytesOf ": can't be read"

@@ -1,0 +1,131 @@
+// What a run tells people: what its lines print, and on standard error why it was refused or has failed.
+ghost use mathlib.Core.Path.{_≡_};
+ghost use mathlib.Core.Bool.{true};
+ghost use mathlib.Core.List.{_++_};
+ghost use Prim.Native.Nat.{_≤_};
+ghost use lib.ListN.{length, take};
+ghost use Rattle.base.specs.Tests.{pick};
+ghost use Rattle.ascii.specs.Laying.{Laid};
+ghost use Rattle.performance.specs.Openings.{tellsRefusal};
+ghost use Rattle.performance.specs.Said.{mostName, saidRoom, toldName, ofFile, refusedName, refusedLine, unreadableWords};
+use ascii::put_bytes;
+use session::Refusal;
+
+// A name is told up to this many bytes: what is longer is cut.
+const MOST_NAME: usize = 4352;
+
+// Room for any line that has a name in front.
+const SAID_ROOM: usize = 4608;
+
+// The first n bytes of `text`, with why the last call failed behind them.
+fn say_failure(text: &[u8], n: usize) {
+    if text.len() < n {
+        return;
+    }
+    let from = 0;
+    os::fail(&text[from..n]);
+}
+
+// ---- names
+
+// How many bytes of a name are told.
+fn told(name: &[u8]) -> usize
+    ensures { λ r. ⌜ (r ≤ mostName) × (r ≤ length (now (name .entry))) × (take r (now (name .entry)) ≡ toldName (now (name .entry))) ⌝ }
+{
+    if MOST_NAME < name.len() {
+        return MOST_NAME;
+    }
+    name.len()
+}
+
+// What the input is called, and that it can't be read.
+fn put_unreadable(text: &mut [u8], name: &[u8]) -> usize
+    requires { ⌜ saidRoom ≤ length (now text) ⌝ }
+    ensures { λ r. ⌜ Laid (now (text .entry)) 0 (toldName (now (name .entry)) ++ unreadableWords) (now (text .exit)) r ⌝ }
+{
+    let n = told(name);
+    let at = put_bytes(text, 0, &name[..n]);
+    put_bytes(text, at, b": can't be read")
+}
+
+// Tells that the input can't be read, and why. Nothing is written before the reason is known, since a write may change it.
+pub fn say_unreadable(name: &[u8]) {
+    let mut text = [0u8; SAID_ROOM];
+    let n = put_unreadable(&mut text, name);
+    say_failure(&text, n);
+}
+
+// ---- a refused opening
+
+// Whether the refusal is for what is in the score file.
+fn of_file(x: Refusal) -> bool
+    ensures { λ r. ⌜ r ≡ ofFile x ⌝ }
+{
+    match x {
+        Refusal::MemoryShort => false,
+        Refusal::RoomShort => false,
+        Refusal::File(_) => true,
+        Refusal::BadTempo => false,
+        Refusal::NoSession => false,
+        Refusal::NoEvent => false,
+        Refusal::NotAfter => false,
+        Refusal::BadMillis => false,
+        Refusal::ClockFull => false,
+    }
+}
+
+// The line of a refusal, with as much of the name as is told.
+fn put_refused(text: &mut [u8], name: &[u8], file: &[u8], x: Refusal) -> usize
+    requires { ⌜ saidRoom ≤ length (now text) ⌝ }
+    ensures { λ r. ⌜ Laid (now (text .entry)) 0 (refusedLine (now (name .entry)) (now (file .entry)) x) (now (text .exit)) r ⌝ }
+{
+    let n = told(name);
+    refusals::refusal_line(text, &name[..n], file, x)
+}
+
+// The line that tells people why an opening was refused: for what is in the file, or for what is in line 1.
+fn put_refusal(text: &mut [u8], score: &[u8], first: &[u8], file: &[u8], x: Refusal) -> usize
+    requires { ⌜ saidRoom ≤ length (now text) ⌝ }
+    ensures { λ r. ⌜ Laid (now (text .entry)) 0 (refusedLine (refusedName (now (score .entry)) (now (first .entry)) x) (now (file .entry)) x) (now (text .exit)) r ⌝ }
+{
+    if of_file(x) {
+        return put_refused(text, score, file, x);
+    }
+    put_refused(text, first, file, x)
+}
+
+fn say_refusal(file: &[u8], score: &[u8], first: &[u8]) {
+    let mut text = [0u8; SAID_ROOM];
+    let n = put_refusal(&mut text, score, first, file, playing::why_refused(file));
+    streams::say_first(&text, n);
+}
+
+// Whether the first n bytes of `out`, which a line printed, tell of an opening that is refused.
+fn is_refusal(out: &[u8], n: usize) -> bool
+    requires { ⌜ n ≤ length (now out) ⌝ }
+    ensures { λ r. ⌜ r ≡ tellsRefusal (take n (now (out .entry))) ⌝ }
+{
+    if ascii::begins(b"open 0 ", &out[..n]) {
+        return false;
+    }
+    ascii::begins(b"open ", &out[..n])
+}
+
+// Whether an opening has been refused, after a line that printed the first n bytes of `out`.
+pub fn after_line(
+    file: &[u8],
+    score: &[u8],
+    first: &[u8],
+    out: &[u8],
+    n: usize,
+    refused: bool,
+) -> bool
+    requires { ⌜ n ≤ length (now out) ⌝ }
+    ensures { λ r. ⌜ r ≡ pick (tellsRefusal (take n (now (out .entry)))) true refused ⌝ }
+{
+    if !is_refusal(out, n) {
+        return refused;
+    }
+    say_refusal(file, score, first);
+    true
+}
