@@ -1,0 +1,161 @@
+-- What an argument is, and what it makes of an order, in the code's own terms: what the calls told decides the tests of the definition.
+-- Assumes nothing.
+use mathlib.Core.Path.{_≡_, refl, sym, _∙_}
+use mathlib.Core.Bool.{Bool, true, false}
+use mathlib.Core.List.{List}
+use Prim.Native.Nat.{ℕ, _<_, _≤_}
+use lib.Dec.{leb}
+use borrow.Author.Tests.{le-leb, lt-leb, lt-ltb, le-ltb}
+use borrow.Author.Needs.{needs}
+use Rattle.base.specs.Tests.{pick}
+use Rattle.base.proofs.TestLaws.{pick-true, pick-false}
+use Rattle.ascii.specs.Text.{bytesOf}
+use Rattle.ascii.specs.Words.{begins}
+use Rattle.orders.specs.declared.Command.{Command}
+use Rattle.orders.specs.declared.Command.the-variants.{Help}
+use Rattle.orders.specs.declared.Argument.{Argument}
+use Rattle.orders.specs.declared.Argument.the-variants.{Name, Plain, Wish, Dashed}
+use Rattle.orders.specs.declared.Usage.{Usage}
+use Rattle.orders.specs.declared.Usage.the-variants.{Right, Wished, NoCommand, NoOption, TooFew, TooMany, InputTwice}
+use Rattle.orders.specs.declared.Order.{Order}
+use Rattle.orders.specs.declared.table.Named.{Named}
+use Rattle.orders.specs.declared.table.Named.the-variants.{Known, Unknown}
+use Rattle.orders.specs.Table.{rowOf, same, commandNamed}
+use Rattle.orders.specs.Usage.{dash, argumentOf, fresh, stopped, isRight, begunNamed, begunAs, begun, counted, nameTaken, takenPlain, takenAs, taken, closed}
+
+-- ---- what an argument is
+
+pub behind-dashes : (plain : Bool) (arg : List ℕ) → plain ≡ true → Name ≡ argumentOf plain arg
+unfolding argumentOf
+behind-dashes plain arg p = pick-true _ _ _ _ p refl
+
+module _ (plain : Bool) (arg : List ℕ) (np : plain ≡ false) (d : Bool) (ed : d ≡ same (bytesOf "--") arg) where
+  pub is-plain : d ≡ true → Plain ≡ argumentOf plain arg
+  unfolding argumentOf
+  is-plain p = pick-false _ _ _ _ np (pick-true _ _ _ _ (sym ed ∙ p) refl)
+
+  module _ (nd : d ≡ false) (h : Bool) (eh : h ≡ same (bytesOf "-h") arg) where
+    pub is-short-wish : h ≡ true → Wish ≡ argumentOf plain arg
+    unfolding argumentOf
+    is-short-wish p = pick-false _ _ _ _ np (pick-false _ _ _ _ (sym ed ∙ nd) (pick-true _ _ _ _ (sym eh ∙ p) refl))
+
+    module _ (nh : h ≡ false) (l : Bool) (el : l ≡ same (bytesOf "--help") arg) where
+      pub is-long-wish : l ≡ true → Wish ≡ argumentOf plain arg
+      unfolding argumentOf
+      is-long-wish p = pick-false _ _ _ _ np (pick-false _ _ _ _ (sym ed ∙ nd) (pick-false _ _ _ _ (sym eh ∙ nh) (pick-true _ _ _ _ (sym el ∙ p) refl)))
+
+      module _ (nl : l ≡ false) (s : Bool) (es : s ≡ same dash arg) where
+        past-words : (r : Argument) → r ≡ pick (same dash arg) Name (pick (begins dash arg) Dashed Name) → r ≡ argumentOf plain arg
+        unfolding argumentOf
+        past-words r e = pick-false _ _ _ _ np (pick-false _ _ _ _ (sym ed ∙ nd) (pick-false _ _ _ _ (sym eh ∙ nh) (pick-false _ _ _ _ (sym el ∙ nl) e)))
+
+        pub is-input : s ≡ true → Name ≡ argumentOf plain arg
+        is-input p = past-words Name (pick-true _ _ _ _ (sym es ∙ p) refl)
+
+        module _ (ns : s ≡ false) (b : Bool) (eb : b ≡ begins dash arg) where
+          pub is-dashed : b ≡ true → Dashed ≡ argumentOf plain arg
+          is-dashed p = past-words Dashed (pick-false _ _ _ _ (sym es ∙ ns) (pick-true _ _ _ _ (sym eb ∙ p) refl))
+
+          pub is-name : b ≡ false → Name ≡ argumentOf plain arg
+          is-name p = past-words Name (pick-false _ _ _ _ (sym es ∙ ns) (pick-false _ _ _ _ (sym eb ∙ p) refl))
+
+pub ruleset reading = (behind-dashes, is-plain, is-short-wish, is-long-wish, is-input, is-dashed, is-name, needs)
+
+-- ---- the first argument
+
+pub right-case : (u y : Usage) (r : Bool) → u ≡ y → r ≡ isRight y → r ≡ isRight u
+right-case u y r e p = rw e p
+
+pub begun-known : (n : Named) (c : Command) (r : Order) → n ≡ Known c → r ≡ fresh c Right 0 → r ≡ begunNamed n
+unfolding begunNamed
+begun-known n c r e p = rw e p
+
+pub begun-unknown : (n : Named) (r : Order) → n ≡ Unknown → r ≡ fresh Help NoCommand 1 → r ≡ begunNamed n
+unfolding begunNamed
+begun-unknown n r e p = rw e p
+
+module _ (arg : List ℕ) (a : Argument) (ea : a ≡ argumentOf false arg) (r : Order) where
+  pub begun-wish : a ≡ Wish → r ≡ fresh Help Wished 0 → r ≡ begun arg
+  unfolding begun begunAs
+  begun-wish e p = rw (← ea, e) p
+
+  module _ (n : Named) (en : n ≡ commandNamed arg) (er : r ≡ begunNamed n) where
+    pub begun-name : a ≡ Name → r ≡ begun arg
+    unfolding begun begunAs
+    begun-name e = rw (← ea, e, ← en) er
+
+    pub begun-plain : a ≡ Plain → r ≡ begun arg
+    unfolding begun begunAs
+    begun-plain e = rw (← ea, e, ← en) er
+
+    pub begun-dashed : a ≡ Dashed → r ≡ begun arg
+    unfolding begun begunAs
+    begun-dashed e = rw (← ea, e, ← en) er
+
+pub ruleset beginning = (right-case, begun-known, begun-unknown, begun-wish, begun-name, begun-plain, begun-dashed, needs)
+
+-- ---- one argument more
+
+module _ (o : Order) (i : ℕ) (arg : List ℕ) (r : Order) (most : ℕ) (em : most ≡ rowOf (o .command) .most) where
+  pub name-many : most ≤ o .names → r ≡ stopped o TooMany i → r ≡ nameTaken o i arg
+  unfolding nameTaken
+  name-many p e = pick-true _ _ _ _ (rw (← em) (le-leb most (o .names) p)) e
+
+  module _ (few : o .names < most) (t : Bool) (et : t ≡ same dash arg) where
+    counts : r ≡ pick (same dash arg) (pick (leb 1 (o .inputs)) (stopped o InputTwice i) (counted o 1)) (counted o (o .inputs)) → r ≡ nameTaken o i arg
+    unfolding nameTaken
+    counts e = pick-false _ _ _ _ (rw (← em) (lt-leb most (o .names) few)) e
+
+    pub name-twice : t ≡ true → 1 ≤ o .inputs → r ≡ stopped o InputTwice i → r ≡ nameTaken o i arg
+    name-twice p q e = counts (pick-true _ _ _ _ (sym et ∙ p) (pick-true _ _ _ _ (le-leb 1 (o .inputs) q) e))
+
+    pub name-input : t ≡ true → o .inputs < 1 → r ≡ counted o 1 → r ≡ nameTaken o i arg
+    name-input p q e = counts (pick-true _ _ _ _ (sym et ∙ p) (pick-false _ _ _ _ (lt-leb 1 (o .inputs) q) e))
+
+    pub name-file : t ≡ false → r ≡ counted o (o .inputs) → r ≡ nameTaken o i arg
+    name-file p e = counts (pick-false _ _ _ _ (sym et ∙ p) e)
+
+pub ruleset counting = (name-many, name-twice, name-input, name-file, needs)
+
+module _ (o : Order) (i : ℕ) (a : Argument) (arg : List ℕ) (r : Order) where
+  pub as-name : a ≡ Name → r ≡ nameTaken o i arg → r ≡ takenAs o i a arg
+  unfolding takenAs
+  as-name e p = rw e p
+
+  pub as-plain : a ≡ Plain → r ≡ takenPlain o → r ≡ takenAs o i a arg
+  unfolding takenAs
+  as-plain e p = rw e p
+
+  pub as-wish : a ≡ Wish → r ≡ stopped o Wished 0 → r ≡ takenAs o i a arg
+  unfolding takenAs
+  as-wish e p = rw e p
+
+  pub as-dashed : a ≡ Dashed → r ≡ stopped o NoOption i → r ≡ takenAs o i a arg
+  unfolding takenAs
+  as-dashed e p = rw e p
+
+pub ruleset taking = (as-name, as-plain, as-wish, as-dashed, needs)
+
+module _ (o : Order) (t : Bool) (et : t ≡ isRight (o .usage)) where
+  pub take-on : (i : ℕ) (arg : List ℕ) (a : Argument) (r : Order) → t ≡ true → a ≡ argumentOf (o .plain) arg → r ≡ takenAs o i a arg → r ≡ taken o i arg
+  unfolding taken
+  take-on i arg a r p ea e = pick-true _ _ _ _ (sym et ∙ p) (rw ea at e)
+
+  pub take-none : (i : ℕ) (arg : List ℕ) → t ≡ false → o ≡ taken o i arg
+  unfolding taken
+  take-none i arg p = pick-false _ _ _ _ (sym et ∙ p) refl
+
+  pub close-none : t ≡ false → o ≡ closed o
+  unfolding closed
+  close-none p = pick-false _ _ _ _ (sym et ∙ p) refl
+
+  module _ (right : t ≡ true) (least : ℕ) (el : least ≡ rowOf (o .command) .least) where
+    pub close-few : (r : Order) → o .names < least → r ≡ stopped o TooFew 1 → r ≡ closed o
+    unfolding closed
+    close-few r p e = pick-true _ _ _ _ (sym et ∙ right) (pick-true _ _ _ _ (rw (← el) (lt-ltb (o .names) least p)) e)
+
+    pub close-right : least ≤ o .names → o ≡ closed o
+    unfolding closed
+    close-right p = pick-true _ _ _ _ (sym et ∙ right) (pick-false _ _ _ _ (rw (← el) (le-ltb (o .names) least p)) refl)
+
+pub ruleset closing = (take-on, take-none, close-none, close-few, close-right, needs)

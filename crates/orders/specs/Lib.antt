@@ -1,0 +1,6 @@
+-- What `bin/poolmirror COMMAND ARGS` decides from its arguments.
+pub mod Table
+pub mod Rows
+pub mod Help
+pub mod Usage
+pub mod Said

@@ -1,0 +1,113 @@
+-- The arguments, read from front to back: the first fault decides.
+use Prim.Native.Nat.{ℕ, suc, _+_}
+use mathlib.Core.Bool.{Bool, true, false}
+use mathlib.Core.List.{List, [], _∷_}
+use lib.Dec.{leb, ltb}
+use Rattle.base.specs.Tests.{pick}
+use Rattle.ascii.specs.Text.{bytesOf}
+use Rattle.ascii.specs.Words.{begins}
+use Rattle.orders.specs.declared.Command.{Command}
+use Rattle.orders.specs.declared.Command.the-variants.{Help}
+use Rattle.orders.specs.declared.Argument.{Argument}
+use Rattle.orders.specs.declared.Argument.the-variants.{Name, Plain, Wish, Dashed}
+use Rattle.orders.specs.declared.Usage.{Usage}
+use Rattle.orders.specs.declared.Usage.the-variants.{Right, Wished, NoCommand, NoOption, TooFew, TooMany, InputTwice}
+use Rattle.orders.specs.declared.Order.{Order}
+use Rattle.orders.specs.declared.table.Named.{Named}
+use Rattle.orders.specs.declared.table.Named.the-variants.{Known, Unknown}
+use Rattle.orders.specs.Table.{rowOf, same, commandNamed}
+
+-- ---- what an argument is
+
+-- Standard input's name. It is also what an option begins with.
+abbrev pub dash : List ℕ
+dash = bytesOf "-"
+
+-- Behind `--` everything is a name.
+unfoldable pub argumentOf : (plain : Bool) → List ℕ → Argument
+argumentOf plain arg =
+    pick plain Name
+    (pick (same (bytesOf "--") arg) Plain
+    (pick (same (bytesOf "-h") arg) Wish
+    (pick (same (bytesOf "--help") arg) Wish
+    (pick (same dash arg) Name
+    (pick (begins dash arg) Dashed Name)))))
+
+-- ---- what is ordered
+
+-- An order with no names; one with what was found at an argument.
+unfoldable pub fresh : Command → Usage → (at : ℕ) → Order
+fresh c u at = record { command = c; names = 0; inputs = 0; plain = false; usage = u; at = at }
+
+unfoldable pub stopped : Order → Usage → (at : ℕ) → Order
+stopped o u at = record { command = o .command; names = o .names; inputs = o .inputs; plain = o .plain; usage = u; at = at }
+
+-- Nothing was found.
+unfoldable pub isRight : Usage → Bool
+isRight Right = true
+isRight Wished = false
+isRight NoCommand = false
+isRight NoOption = false
+isRight TooFew = false
+isRight TooMany = false
+isRight InputTwice = false
+
+-- ---- the first argument
+
+-- The command that was looked up; an unknown one is a fault of argument 1.
+unfoldable pub begunNamed : Named → Order
+begunNamed (Known c) = fresh c Right 0
+begunNamed Unknown = fresh Help NoCommand 1
+
+-- A wish for help, else the command of that name. Where no command is known, it is `help`.
+unfoldable pub begunAs : Argument → List ℕ → Order
+begunAs Name arg = begunNamed (commandNamed arg)
+begunAs Plain arg = begunNamed (commandNamed arg)
+begunAs Wish arg = fresh Help Wished 0
+begunAs Dashed arg = begunNamed (commandNamed arg)
+
+unfoldable pub begun : List ℕ → Order
+begun arg = begunAs (argumentOf false arg) arg
+
+-- ---- one argument more
+
+-- One name more, and so many of them are standard input.
+unfoldable pub counted : Order → (inputs : ℕ) → Order
+counted o inputs = record { command = o .command; names = o .names + 1; inputs = inputs; plain = o .plain; usage = o .usage; at = o .at }
+
+-- A name, at place i: one more than the command takes, and standard input a second time, are faults.
+unfoldable pub nameTaken : Order → (i : ℕ) → List ℕ → Order
+nameTaken o i arg =
+    pick (leb (rowOf (o .command) .most) (o .names)) (stopped o TooMany i)
+    (pick (same dash arg) (pick (leb 1 (o .inputs)) (stopped o InputTwice i) (counted o 1)) (counted o (o .inputs)))
+
+-- The `--`, behind which each argument is a name.
+unfoldable pub takenPlain : Order → Order
+takenPlain o = record { command = o .command; names = o .names; inputs = o .inputs; plain = true; usage = o .usage; at = o .at }
+
+-- One argument more, by what it is.
+unfoldable pub takenAs : Order → (i : ℕ) → Argument → List ℕ → Order
+takenAs o i Name arg = nameTaken o i arg
+takenAs o i Plain arg = takenPlain o
+takenAs o i Wish arg = stopped o Wished 0
+takenAs o i Dashed arg = stopped o NoOption i
+
+-- Where something was found already, nothing changes.
+unfoldable pub taken : Order → (i : ℕ) → List ℕ → Order
+taken o i arg = pick (isRight (o .usage)) (takenAs o i (argumentOf (o .plain) arg) arg) o
+
+-- ---- all arguments
+
+-- No argument more: fewer names than the command takes are a fault, told of the command.
+unfoldable pub closed : Order → Order
+closed o = pick (isRight (o .usage)) (pick (ltb (o .names) (rowOf (o .command) .least)) (stopped o TooFew 1) o) o
+
+-- These arguments, the first of them at place i.
+unfoldable pub takenAll : Order → (i : ℕ) → List (List ℕ) → Order
+takenAll o i [] = o
+takenAll o i (arg ∷ args) = takenAll (taken o i arg) (suc i) args
+
+-- No argument at all is a wish for help. The command is argument 1.
+unfoldable pub ordered : List (List ℕ) → Order
+ordered [] = fresh Help Wished 0
+ordered (arg ∷ args) = closed (takenAll (begun arg) 2 args)

@@ -1,0 +1,226 @@
+// The arguments, read from front to back.
+ghost use mathlib.Core.Path.{_≡_};
+ghost use mathlib.Core.List.{[]};
+ghost use Prim.Native.Nat.{_<_};
+ghost use Rattle.orders.specs.Table.{rowOf, anyNumber, same};
+ghost use Rattle.orders.specs.Usage.{argumentOf, fresh, stopped, isRight, begunNamed, begun, counted, nameTaken, takenPlain, takenAs, taken, closed, dash, ordered};
+use crate::Argument;
+use crate::Command;
+use crate::Order;
+use crate::Usage;
+use crate::table::Named;
+use crate::table::ROW_ROOM;
+use crate::table::find_command;
+use crate::table::put_row;
+use crate::table::same;
+use ascii::begins;
+
+// How many names the command takes at least, and at most.
+fn least(c: Command) -> usize
+    ensures { λ r. ⌜ r ≡ rowOf c .least ⌝ }
+{
+    let mut text = [0; ROW_ROOM];
+    let row = put_row(&mut text, c);
+    row.least
+}
+
+fn most(c: Command) -> usize
+    ensures { λ r. ⌜ r ≡ rowOf c .most ⌝ }
+{
+    let mut text = [0; ROW_ROOM];
+    let row = put_row(&mut text, c);
+    row.most
+}
+
+// What the argument is. Behind `--` each is a name.
+pub fn argument_of(plain: bool, arg: &[u8]) -> Argument
+    ensures { λ r. ⌜ r ≡ argumentOf plain (now (arg .entry)) ⌝ }
+{
+    if plain {
+        return Argument::Name;
+    }
+    if same(b"--", arg) {
+        return Argument::Plain;
+    }
+    if same(b"-h", arg) {
+        return Argument::Wish;
+    }
+    if same(b"--help", arg) {
+        return Argument::Wish;
+    }
+    if same(b"-", arg) {
+        return Argument::Name;
+    }
+    if begins(b"-", arg) {
+        return Argument::Dashed;
+    }
+    Argument::Name
+}
+
+// An order with no names.
+fn fresh(c: Command, u: Usage, at: usize) -> Order
+    ensures { λ r. ⌜ r ≡ fresh c u at ⌝ }
+{
+    Order {
+        command: c,
+        names: 0,
+        inputs: 0,
+        plain: false,
+        usage: u,
+        at: at,
+    }
+}
+
+// The order, with what was found at an argument.
+fn stopped(o: Order, u: Usage, at: usize) -> Order
+    ensures { λ r. ⌜ r ≡ stopped o u at ⌝ }
+{
+    let c = o.command;
+    Order {
+        command: c,
+        names: o.names,
+        inputs: o.inputs,
+        plain: o.plain,
+        usage: u,
+        at: at,
+    }
+}
+
+// Whether nothing was found.
+fn is_right(u: Usage) -> bool
+    ensures { λ r. ⌜ r ≡ isRight u ⌝ }
+{
+    match u {
+        Usage::Right => true,
+        Usage::Wished => false,
+        Usage::NoCommand => false,
+        Usage::NoOption => false,
+        Usage::TooFew => false,
+        Usage::TooMany => false,
+        Usage::InputTwice => false,
+    }
+}
+
+// What the first argument orders, where it is no wish.
+fn begin_named(n: Named) -> Order
+    ensures { λ r. ⌜ r ≡ begunNamed n ⌝ }
+{
+    match n {
+        Named::Known(c) => fresh(c, Usage::Right, 0),
+        Named::Unknown => fresh(Command::Help, Usage::NoCommand, 1),
+    }
+}
+
+// What no argument at all orders.
+pub fn nothing() -> Order
+    ensures { λ r. ⌜ r ≡ ordered [] ⌝ }
+{
+    fresh(Command::Help, Usage::Wished, 0)
+}
+
+// What the first argument orders.
+pub fn begin(arg: &[u8]) -> Order
+    ensures { λ r. ⌜ r ≡ begun (now (arg .entry)) ⌝ }
+{
+    match argument_of(false, arg) {
+        Argument::Name => begin_named(find_command(arg)),
+        Argument::Plain => begin_named(find_command(arg)),
+        Argument::Wish => fresh(Command::Help, Usage::Wished, 0),
+        Argument::Dashed => begin_named(find_command(arg)),
+    }
+}
+
+// The order with one name more.
+fn count_name(o: Order, inputs: usize) -> Order
+    requires { ⌜ o .names < anyNumber ⌝ }
+    ensures { λ r. ⌜ r ≡ counted o inputs ⌝ }
+{
+    let c = o.command;
+    let u = o.usage;
+    Order {
+        command: c,
+        names: o.names + 1,
+        inputs: inputs,
+        plain: o.plain,
+        usage: u,
+        at: o.at,
+    }
+}
+
+// A name: one more than the command takes, or standard input a second time, is a fault.
+fn take_name(o: Order, i: usize, arg: &[u8]) -> Order
+    ensures { λ r. ⌜ r ≡ nameTaken o i (now (arg .entry)) ⌝ }
+{
+    let c = o.command;
+    if most(c) <= o.names {
+        return stopped(o, Usage::TooMany, i);
+    }
+    if same(b"-", arg) {
+        if 1 <= o.inputs {
+            return stopped(o, Usage::InputTwice, i);
+        }
+        return count_name(o, 1);
+    }
+    count_name(o, o.inputs)
+}
+
+// The order, where each argument from here on is a name.
+fn pass_dashes(o: Order) -> Order
+    ensures { λ r. ⌜ r ≡ takenPlain o ⌝ }
+{
+    let c = o.command;
+    let u = o.usage;
+    Order {
+        command: c,
+        names: o.names,
+        inputs: o.inputs,
+        plain: true,
+        usage: u,
+        at: o.at,
+    }
+}
+
+// One argument more, by what it is.
+fn take_as(o: Order, i: usize, a: Argument, arg: &[u8]) -> Order
+    ensures { λ r. ⌜ r ≡ takenAs o i a (now (arg .entry)) ⌝ }
+{
+    match a {
+        Argument::Name => take_name(o, i, arg),
+        Argument::Plain => pass_dashes(o),
+        Argument::Wish => stopped(o, Usage::Wished, 0),
+        Argument::Dashed => stopped(o, Usage::NoOption, i),
+    }
+}
+
+// One argument more, at place i. The first fault decides.
+pub fn take(o: Order, i: usize, arg: &[u8]) -> Order
+    ensures { λ r. ⌜ r ≡ taken o i (now (arg .entry)) ⌝ }
+{
+    let u = o.usage;
+    if is_right(u) {
+        return take_as(o, i, argument_of(o.plain, arg), arg);
+    }
+    o
+}
+
+// No argument more.
+pub fn close(o: Order) -> Order
+    ensures { λ r. ⌜ r ≡ closed o ⌝ }
+{
+    let u = o.usage;
+    let c = o.command;
+    if is_right(u) {
+        if o.names < least(c) {
+            return stopped(o, Usage::TooFew, 1);
+        }
+        return o;
+    }
+    o
+}
+
+// Whether a name is standard input's.
+pub fn is_input(name: &[u8]) -> bool
+    ensures { λ r. ⌜ r ≡ same dash (now (name .entry)) ⌝ }
+{
+    same(b"-", name)
+}
