@@ -1,0 +1,203 @@
+-- Where each fault of the file check is: the first wrong event, item or message stands at the place that its fault names, and what stands before it is right.
+-- By recursion over the events, along the walk of the items, and over the messages. Assumes nothing.
+use mathlib.Core.Path.{_≡_, refl, sym, ap, _∙_}
+use mathlib.Core.Bool.{Bool, true, false}
+use mathlib.Core.List.{List, [], _∷_}
+use Prim.Native.Nat.{ℕ, zero, suc, _+_, _*_, _<_, _≤_}
+use native.Mathlib.Omega.{arith}
+use lib.ListN.{length, getD, take, drop, length-drop}
+use lib.Seq.{getD-take, getD-drop, length-take-le}
+use Rattle.page.specs.declared.Item.{Item}
+use Rattle.base.specs.Tests.{pick, between}
+use Rattle.base.specs.Checks.{Check, fine, refused, need, firstFault}
+use Rattle.contents.specs.declared.Fault.{Fault}
+use Rattle.contents.specs.declared.Fault.the-variants.{BadEvent, BadItem, BadMessage, TextLeft}
+use Rattle.contents.specs.declared.Counts.{Counts}
+use Rattle.contents.specs.Limits.{eventSize, itemSize, messageSize, longest}
+use Rattle.contents.specs.Bytes.{u16At}
+use Rattle.contents.specs.Contents.{itemsAt}
+use Rattle.items.specs.declared.walk.Walk.{Walk}
+use Rattle.items.specs.declared.walk.Walk.the-variants.{Actions, Stop}
+use Rattle.items.specs.declared.Setting.{Setting}
+use Rattle.items.specs.Items.{itemRight, withinOf, ownOf, next, inside, onward, walkOf, walked, outset, walkFault, itemsRight}
+use Rattle.items.specs.Ranged.{blank}
+use Rattle.items.proofs.Walked.{right-item, within-left}
+use Rattle.messages.specs.Messages.{messageRight, messagesRight}
+use Rattle.score.specs.Events.{eventsRight}
+
+-- ---- of several checks, one has the fault
+
+module _ {X : Type 0} where
+  pub fault-of : (v : Check X) (l : List (Check X)) (x : X) (P : Type 0) → firstFault (v ∷ l) ≡ refused x → (v ≡ refused x → P) → (v ≡ fine → firstFault l ≡ refused x → P) → P
+  unfolding firstFault
+  fault-of fine l x P e here later = later refl e
+  fault-of (refused y) l x P e here later = here e
+
+  pub no-fault : (x : X) (P : Type 0) → firstFault [] ≡ refused x → P
+  unfolding firstFault
+  no-fault x P e = let z : _≡_ {A = ℕ} 0 1 = cc in absurd (omega arith)
+
+  need-wrong : (b : Bool) (x y : X) → need b y ≡ refused x → b ≡ false
+  unfolding need
+  need-wrong true x y e = let z : _≡_ {A = ℕ} 0 1 = cc in absurd (omega arith)
+  need-wrong false x y e = refl
+
+  pub need-fault : (b : Bool) (x y : X) → need b y ≡ refused x → x ≡ y
+  unfolding need
+  need-fault true x y e = let z : _≡_ {A = ℕ} 0 1 = cc in absurd (omega arith)
+  need-fault false x y e = cc
+
+  need-right : (b : Bool) (y : X) → need b y ≡ fine → b ≡ true
+  unfolding need
+  need-right true y e = refl
+  need-right false y e = let z : _≡_ {A = ℕ} 0 1 = cc in absurd (omega arith)
+
+-- ---- the events
+
+-- The duration of the event at this place of the list is wrong, and those before it are right.
+pub record EventFault (at : ℕ) (ds : List ℕ) (x : Fault) : Type 0 where
+  pub k : ℕ
+  pub below : k < length ds
+  pub place : x ≡ BadEvent (at + eventSize * k)
+  pub wrong : between 1 longest (getD ds k 0) ≡ false
+  pub before-right : (j : ℕ) → j < k → between 1 longest (getD ds j 0) ≡ true
+
+event-next : (at d : ℕ) (ds : List ℕ) (x : Fault) → between 1 longest d ≡ true → EventFault (at + eventSize) ds x → EventFault at (d ∷ ds) x
+event-next at d ds x right h =
+    let s : at + eventSize + eventSize * h .k ≡ at + eventSize * suc (h .k) = omega arith in
+    let earlier : (j : ℕ) → j < suc (h .k) → between 1 longest (getD (d ∷ ds) j 0) ≡ true = go in
+    record { k = suc (h .k); below = omega (arith, h .below); place = h .place ∙ ap BadEvent s; wrong = h .wrong; before-right = earlier }
+  where
+    go : (j : ℕ) → j < suc (h .k) → between 1 longest (getD (d ∷ ds) j 0) ≡ true
+    go zero p = right
+    go (suc j) p = h .before-right j (omega arith)
+
+pub event-fault : (at : ℕ) (ds : List ℕ) (x : Fault) → eventsRight at ds ≡ refused x → EventFault at ds x
+unfolding eventsRight
+event-fault at [] x e = let z : _≡_ {A = ℕ} 0 1 = cc in absurd (omega arith)
+event-fault at (d ∷ ds) x e =
+    fault-of _ _ x (EventFault at (d ∷ ds) x) e
+    (λ h.
+    let s : at ≡ at + eventSize * 0 = omega arith in
+    record { k = 0; below = omega arith; place = need-fault _ x (BadEvent at) h ∙ ap BadEvent s; wrong = need-wrong _ x (BadEvent at) h; before-right = λ j p. absurd (omega arith) })
+    (λ right rest.
+    fault-of _ _ x (EventFault at (d ∷ ds) x) rest
+    (λ h. event-next at d ds x (need-right _ (BadEvent at) right) (event-fault (at + eventSize) ds x h))
+    (λ _ h. no-fault x _ h))
+
+-- ---- the items
+
+-- The item at this page place is wrong where it stands.
+pub record ItemFault (c : Counts) (at : ℕ) (is : List Item) (x : Fault) : Type 0 where
+  pub p : ℕ
+  pub below : p < length is
+  pub place : x ≡ BadItem (at + itemSize * p)
+  pub setting : Setting
+  pub left : ℕ
+  pub actions : ℕ
+  pub wrong : itemRight (getD is p blank) c setting left actions ≡ false
+
+module _ (c : Counts) (at : ℕ) (i : Item) (is : List Item) (x : Fault) where
+  item-here : (h : Setting) (n : ℕ) → itemRight i c h (length is) n ≡ false → Stop (BadItem at) ≡ Stop x → ItemFault c at (i ∷ is) x
+  item-here h n wrong e =
+      let q : x ≡ BadItem at = cc in
+      let s : at ≡ at + itemSize * 0 = omega arith in
+      record { p = 0; below = omega arith; place = q ∙ ap BadItem s; setting = h; left = length is; actions = n; wrong = wrong }
+
+  item-within : (k : ℕ) → k ≤ length is → ItemFault c (at + itemSize) (take k is) x → ItemFault c at (i ∷ is) x
+  item-within k l h =
+      let s : at + itemSize + itemSize * h .p ≡ at + itemSize * suc (h .p) = omega arith in
+      let b : h .p < k = omega (arith, h .below, length-take-le k is l) in
+      record {
+        p = suc (h .p);
+        below = omega arith;
+        place = h .place ∙ ap BadItem s;
+        setting = h .setting;
+        left = h .left;
+        actions = h .actions;
+        wrong = rw (← getD-take k is (h .p) blank b) (h .wrong);
+      }
+
+  item-after : (k : ℕ) → ItemFault c (at + itemSize + itemSize * k) (drop k is) x → ItemFault c at (i ∷ is) x
+  item-after k h =
+      let s : at + itemSize + itemSize * k + itemSize * h .p ≡ at + itemSize * suc (k + h .p) = omega arith in
+      record {
+        p = suc (k + h .p);
+        below = omega (arith, h .below, length-drop k is);
+        place = h .place ∙ ap BadItem s;
+        setting = h .setting;
+        left = h .left;
+        actions = h .actions;
+        wrong = rw (← getD-drop k is (h .p) blank) (h .wrong);
+      }
+
+-- a walk in two parts that stops does so in the first, or in the second from where the first ended
+onward-stopped : (w : Walk) (on : ℕ → Walk) (x : Fault) (P : Type 0) → onward w on ≡ Stop x → (w ≡ Stop x → P) → ((m : ℕ) → on m ≡ Stop x → P) → P
+unfolding onward
+onward-stopped (Actions m) on x P e first second = second m e
+onward-stopped (Stop y) on x P e first second = first e
+
+-- one item of the walk, with what holds of those within it and after it
+module _ (b : ℕ) (c : Counts) (at : ℕ) (i : Item) (is : List Item) (x : Fault) (found : (at′ : ℕ) (is′ : List Item) (h : Setting) (n : ℕ) → walkOf b c at′ is′ h n ≡ Stop x → ItemFault c at′ is′ x) where
+  item-step : (h : Setting) (n : ℕ) (t : Bool) → itemRight i c h (length is) n ≡ t
+      → pick t
+      (onward (walkOf b c (at + itemSize) (take (withinOf i) is) (inside i h) (n + ownOf i))
+      (λ m. walkOf b c (at + itemSize + itemSize * withinOf i) (drop (withinOf i) is) (next i h) m))
+      (Stop (BadItem at))
+      ≡ Stop x
+      → ItemFault c at (i ∷ is) x
+  unfolding pick
+  item-step h n false wrong q = item-here c at i is x h n wrong q
+  item-step h n true right q =
+      onward-stopped _ _ x _ q
+      (λ s. item-within c at i is x (withinOf i) (within-left (right-item i c h (length is) n right)) (found _ _ _ _ s))
+      (λ m s. item-after c at i is x (withinOf i) (found _ _ _ _ s))
+
+walk-fault : (b : ℕ) (c : Counts) (at : ℕ) (is : List Item) (h : Setting) (n : ℕ) (x : Fault) → walkOf b c at is h n ≡ Stop x → ItemFault c at is x
+unfolding walkOf pick
+walk-fault zero c at is h n x e = let z : _≡_ {A = ℕ} 0 1 = cc in absurd (omega arith)
+walk-fault (suc b) c at [] h n x e = let z : _≡_ {A = ℕ} 0 1 = cc in absurd (omega arith)
+walk-fault (suc b) c at (i ∷ is) h n x e =
+    item-step b c at i is x (λ at′ is′ h′ n′ q. walk-fault b c at′ is′ h′ n′ x q) h n (itemRight i c h (length is) n) refl e
+
+walk-stopped : (w : Walk) (x : Fault) → walkFault w ≡ refused x → w ≡ Stop x
+unfolding walkFault
+walk-stopped (Actions n) x e = let z : _≡_ {A = ℕ} 0 1 = cc in absurd (omega arith)
+walk-stopped (Stop y) x e = cc
+
+pub item-fault : (c : Counts) (is : List Item) (x : Fault) → itemsRight c is ≡ refused x → ItemFault c (itemsAt c) is x
+unfolding itemsRight walked
+item-fault c is x e = walk-fault (length is) c (itemsAt c) is outset 0 x (walk-stopped _ x e)
+
+-- ---- the messages
+
+-- The message at this place is wrong, where the one before it ends there.
+pub record MessageFault (f : List ℕ) (c : Counts) (at count : ℕ) (x : Fault) : Type 0 where
+  pub n : ℕ
+  pub below : n < count
+  pub place : x ≡ BadMessage (at + messageSize * n)
+  pub from : ℕ
+  pub wrong : messageRight f c (at + messageSize * n) from ≡ false
+
+module _ (f : List ℕ) (c : Counts) (at count : ℕ) (x : Fault) where
+  message-here : (from : ℕ) → messageRight f c at from ≡ false → x ≡ BadMessage at → MessageFault f c at (suc count) x
+  message-here from wrong e =
+      let s : at + messageSize * 0 ≡ at = omega arith in
+      record { n = 0; below = omega arith; place = e ∙ ap BadMessage (sym s); from = from; wrong = rw s wrong }
+
+  message-next : MessageFault f c (at + messageSize) count x → MessageFault f c at (suc count) x
+  message-next h =
+      let s : at + messageSize * suc (h .n) ≡ at + messageSize + messageSize * h .n = omega arith in
+      record { n = suc (h .n); below = omega (arith, h .below); place = h .place ∙ ap BadMessage (sym s); from = h .from; wrong = rw s (h .wrong) }
+
+-- an entry is wrong, or all are right and the text is not used up
+pub message-fault : (f : List ℕ) (c : Counts) (at count from : ℕ) (x : Fault) (P : Type 0) → messagesRight f c at count from ≡ refused x → (MessageFault f c at count x → P) → (x ≡ TextLeft → P) → P
+unfolding messagesRight
+message-fault f c at zero from x P e entry text = text (need-fault _ x TextLeft e)
+message-fault f c at (suc count) from x P e entry text =
+    fault-of _ _ x P e
+    (λ h. entry (message-here f c at count x from (need-wrong _ x (BadMessage at) h) (need-fault _ x (BadMessage at) h)))
+    (λ _ rest.
+    fault-of _ _ x P rest
+    (λ h. message-fault f c (at + messageSize) count (from + u16At f (at + 2)) x P h (λ m. entry (message-next f c at count x m)) text)
+    (λ _ h. no-fault x P h))

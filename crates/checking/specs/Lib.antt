@@ -1,0 +1,8 @@
+-- What `check` prints for a file, and what a run of it comes to.
+pub mod Counted
+pub mod Tallies
+pub mod Checked
+pub mod Tallied
+pub mod Unread
+pub mod Account
+pub mod Inner
