@@ -1,0 +1,406 @@
+// `poolmirror`: what people do with a score from the shell. The libraries decide what is asked for, what is said and which status tells it; the program moves bytes between the system and them.
+ghost use mathlib.Core.Path.{_≡_};
+ghost use Prim.Native.Nat.{_+_, _≤_};
+ghost use lib.ListN.{length};
+use checking::Tally;
+use disk::FileRead;
+use libc::PATH_MAX;
+use orders::Argument;
+use orders::Command;
+use orders::Order;
+use orders::Usage;
+use playing::OUTPUT_ROOM;
+use session::layout::MEMORY_SIZE;
+use session::layout::ROOM_SIZE;
+use streams::Ending;
+
+// More than any score has, so that a longer file is refused for its length.
+const FILE_ROOM: usize = 65536;
+
+// Room for any line, with a name of any length in it, and for any page of words.
+const LINE_ROOM: usize = 8192;
+
+// The place of the first argument behind the command.
+const FIRST_NAME: usize = 2;
+
+// ---- the arguments
+
+// An argument's bytes; of one that is longer than any name of a file the first ones, which name no file either.
+fn read_argument(i: usize, arg: &mut [u8]) -> usize
+    ensures { λ r. ⌜ r ≤ length (now (arg .exit)) ⌝ }
+{
+    let n = os::arg(i, arg);
+    if os::errno() == libc::ENAMETOOLONG {
+        return arg.len();
+    }
+    n
+}
+
+fn begin_order(arg: &mut [u8]) -> Order {
+    let n = read_argument(1, arg);
+    let from = 0;
+    orders::begin(&arg[from..n])
+}
+
+fn take_argument(o: Order, i: usize, arg: &mut [u8]) -> Order {
+    let n = read_argument(i, arg);
+    let from = 0;
+    orders::take(o, i, &arg[from..n])
+}
+
+fn read_order(arg: &mut [u8]) -> Order {
+    let count = os::arg_count();
+    if count < FIRST_NAME {
+        return orders::nothing();
+    }
+    let mut o = begin_order(arg);
+    let mut i = FIRST_NAME;
+    while i < count {
+        o = take_argument(o, i, arg);
+        i += 1;
+    }
+    orders::close(o)
+}
+
+// ---- names
+
+// A file's bytes, or standard input's, as many as there is room for.
+fn read_named(name: &[u8], file: &mut [u8]) -> FileRead
+    ensures { λ r. ⌜ r .count ≤ length (now (file .exit)) ⌝ }
+{
+    if orders::is_input(name) {
+        return disk::read_input(libc::STDIN_FILENO, file);
+    }
+    disk::read_file(name, file)
+}
+
+// The name in place as it is shown, and how many bytes that has: an empty one is shown as `""`.
+fn show_name(name: &mut [u8], n: usize) -> usize
+    requires { ⌜ (n ≤ length (now name)) × (2 ≤ length (now name)) ⌝ }
+    ensures { λ r. ⌜ r ≤ length (now (name .exit)) ⌝ }
+{
+    if n == 0 {
+        return ascii::put_bytes(name, 0, b"\"\"");
+    }
+    let from = 0;
+    orders::show(&mut name[from..n]);
+    n
+}
+
+// ---- check
+
+// What has come of the files so far, whether `--` was passed, and whether a line could not be written.
+struct Run {
+    tally: Tally,
+    plain: bool,
+    failed: bool,
+}
+
+fn check_named(arg: &mut [u8], n: usize, file: &mut [u8], out: &mut [u8], s: Run) -> Run
+    requires { ⌜ (n ≤ length (now arg)) × (length (now arg) ≡ 4096) × (8192 ≤ length (now out)) ⌝ }
+{
+    let from = 0;
+    let read = read_named(&arg[from..n], file);
+    let shown = show_name(arg, n);
+    let size = read.count;
+    let a = checking::account_line(out, &arg[from..shown], read.error, &file[from..size]);
+    let came = a.came;
+    let tally = s.tally;
+    Run {
+        tally: checking::count_file(tally, came),
+        plain: s.plain,
+        failed: !streams::print(out, a.count),
+    }
+}
+
+fn pass_dashes(s: Run) -> Run {
+    let tally = s.tally;
+    Run {
+        tally,
+        plain: true,
+        failed: s.failed,
+    }
+}
+
+// One argument more: a name is checked.
+fn check_argument(i: usize, arg: &mut [u8], file: &mut [u8], out: &mut [u8], s: Run) -> Run
+    requires { ⌜ (length (now arg) ≡ 4096) × (8192 ≤ length (now out)) ⌝ }
+{
+    let n = read_argument(i, arg);
+    let from = 0;
+    match orders::argument_of(s.plain, &arg[from..n]) {
+        Argument::Name => check_named(arg, n, file, out, s),
+        Argument::Plain => pass_dashes(s),
+        Argument::Wish => s,
+        Argument::Dashed => s,
+    }
+}
+
+// The line of each name, in order.
+fn check_names(arg: &mut [u8], file: &mut [u8], out: &mut [u8]) -> Run
+    requires { ⌜ (length (now arg) ≡ 4096) × (8192 ≤ length (now out)) ⌝ }
+{
+    let count = os::arg_count();
+    let mut s = Run {
+        tally: checking::no_files(),
+        plain: false,
+        failed: false,
+    };
+    let mut i = FIRST_NAME;
+    while i < count {
+        s = check_argument(i, arg, file, out, s);
+        if s.failed {
+            return s;
+        }
+        i += 1;
+    }
+    s
+}
+
+// The sum, where it is worth telling.
+fn say_tally(out: &mut [u8], t: Tally)
+    requires { ⌜ 8192 ≤ length (now out) ⌝ }
+{
+    if checking::worth_telling(t) {
+        let n = checking::tally_line(out, t);
+        streams::say_first(out, n);
+    }
+}
+
+fn check(arg: &mut [u8], file: &mut [u8], out: &mut [u8]) -> Ending
+    requires { ⌜ (length (now arg) ≡ 4096) × (8192 ≤ length (now out)) ⌝ }
+{
+    let s = check_names(arg, file, out);
+    if s.failed {
+        return Ending::Failed;
+    }
+    let tally = s.tally;
+    say_tally(out, tally);
+    checking::ending_of(tally)
+}
+
+// ---- play
+
+// A search among the arguments: how many names are to be passed before the one that is looked for, and whether `--` was passed.
+struct Search {
+    left: usize,
+    plain: bool,
+}
+
+fn is_name(a: Argument) -> bool {
+    match a {
+        Argument::Name => true,
+        Argument::Plain => false,
+        Argument::Wish => false,
+        Argument::Dashed => false,
+    }
+}
+
+// Whether the argument is the name that is looked for.
+fn is_found(a: Argument, s: Search) -> bool {
+    if 0 < s.left {
+        return false;
+    }
+    is_name(a)
+}
+
+fn pass_name(s: Search) -> Search {
+    if s.left < 1 {
+        return s;
+    }
+    Search {
+        left: s.left - 1,
+        plain: s.plain,
+    }
+}
+
+fn pass_argument(a: Argument, s: Search) -> Search {
+    match a {
+        Argument::Name => pass_name(s),
+        Argument::Plain => Search {
+            left: s.left,
+            plain: true,
+        },
+        Argument::Wish => s,
+        Argument::Dashed => s,
+    }
+}
+
+// Finds the name at a place among the names: how many bytes it has.
+fn find_name(place: usize, arg: &mut [u8]) -> usize
+    ensures { λ r. ⌜ r ≤ length (now (arg .exit)) ⌝ }
+{
+    let count = os::arg_count();
+    let from = 0;
+    let mut s = Search {
+        left: place,
+        plain: false,
+    };
+    let mut i = FIRST_NAME;
+    while i < count {
+        let n = read_argument(i, arg);
+        let a = orders::argument_of(s.plain, &arg[from..n]);
+        if is_found(a, s) {
+            return n;
+        }
+        s = pass_argument(a, s);
+        i += 1;
+    }
+    0
+}
+
+fn say_unread(out: &mut [u8], name: &[u8], error: i32) -> Ending
+    requires { ⌜ (length (now name) ≤ 4096) × (8192 ≤ length (now out)) ⌝ }
+{
+    let n = checking::unread_line(out, name, error);
+    streams::say_first(out, n);
+    Ending::Failed
+}
+
+// The commands' descriptor, or -1.
+fn open_commands(name: &[u8]) -> i32 {
+    if orders::is_input(name) {
+        return libc::STDIN_FILENO;
+    }
+    os::open_read(name)
+}
+
+// What line 1 of the commands is called: `commands:1`.
+fn put_first(out: &mut [u8], list: &[u8]) -> usize
+    requires { ⌜ (length (now list) ≤ 4096) × (8192 ≤ length (now out)) ⌝ }
+    ensures { λ r. ⌜ r ≤ length (now (out .exit)) ⌝ }
+{
+    let at = ascii::put_bytes(out, 0, list);
+    ascii::put_bytes(out, at, b":1")
+}
+
+fn perform(file: &[u8], score: &[u8], list: &[u8], input: i32, first: &mut [u8]) -> Ending
+    requires { ⌜ (length (now list) ≤ 4096) × (8192 ≤ length (now first)) ⌝ }
+{
+    let mut mem = [0u64; MEMORY_SIZE];
+    let mut room = [0u64; ROOM_SIZE];
+    let mut out = [0u8; OUTPUT_ROOM];
+    let n = put_first(first, list);
+    let from = 0;
+    performance::perform(
+        file,
+        score,
+        &first[from..n],
+        list,
+        input,
+        &mut mem,
+        &mut room,
+        &mut out,
+    )
+}
+
+// Plays the score by commands that are open.
+fn play_score(
+    score: &mut [u8],
+    n: usize,
+    list: &[u8],
+    input: i32,
+    file: &mut [u8],
+    out: &mut [u8],
+) -> Ending
+    requires { ⌜ (n ≤ length (now score)) × (length (now score) ≡ 4096) × (length (now list) ≤ 4096) × (8192 ≤ length (now out)) ⌝ }
+{
+    let from = 0;
+    let read = read_named(&score[from..n], file);
+    let named = show_name(score, n);
+    if read.error != 0 {
+        return say_unread(out, &score[from..named], read.error);
+    }
+    let size = read.count;
+    perform(&file[from..size], &score[from..named], list, input, out)
+}
+
+// The commands are opened before the score is read, so that nothing is played where one of them can't be.
+fn play(score: &mut [u8], list: &mut [u8], file: &mut [u8], out: &mut [u8]) -> Ending
+    requires { ⌜ (length (now score) ≡ 4096) × (length (now list) ≡ 4096) × (8192 ≤ length (now out)) ⌝ }
+{
+    let from = 0;
+    let n = find_name(0, score);
+    let m = find_name(1, list);
+    let input = open_commands(&list[from..m]);
+    let error = os::errno();
+    let listed = show_name(list, m);
+    if input < 0 {
+        return say_unread(out, &list[from..listed], error);
+    }
+    play_score(score, n, &list[from..listed], input, file, out)
+}
+
+// ---- words
+
+fn ended(written: bool) -> Ending {
+    if written {
+        return Ending::Done;
+    }
+    Ending::Failed
+}
+
+fn help(out: &mut [u8]) -> Ending
+    requires { ⌜ 8192 ≤ length (now out) ⌝ }
+{
+    let n = orders::help_text(out);
+    ended(streams::print(out, n))
+}
+
+fn replies(out: &mut [u8]) -> Ending
+    requires { ⌜ 8192 ≤ length (now out) ⌝ }
+{
+    let n = wording::reply_lines(out);
+    ended(streams::print(out, n))
+}
+
+// A wrong usage is told with the argument at fault.
+fn misused(o: Order, arg: &mut [u8], out: &mut [u8]) -> Ending
+    requires { ⌜ (length (now arg) ≡ 4096) × (8192 ≤ length (now out)) ⌝ }
+{
+    let from = 0;
+    let n = read_argument(o.at, arg);
+    let shown = show_name(arg, n);
+    let m = orders::misuse_line(out, o, &arg[from..shown]);
+    streams::say_first(out, m);
+    Ending::Failed
+}
+
+// ---- the program
+
+fn carry_out(c: Command, arg: &mut [u8], out: &mut [u8]) -> Ending
+    requires { ⌜ (length (now arg) ≡ 4096) × (8192 ≤ length (now out)) ⌝ }
+{
+    let mut list = [0u8; PATH_MAX];
+    let mut file = [0u8; FILE_ROOM];
+    match c {
+        Command::Check => check(arg, &mut file, out),
+        Command::Play => play(arg, &mut list, &mut file, out),
+        Command::Replies => replies(out),
+        Command::Help => help(out),
+    }
+}
+
+fn obey(o: Order, arg: &mut [u8], out: &mut [u8]) -> Ending
+    requires { ⌜ (length (now arg) ≡ 4096) × (8192 ≤ length (now out)) ⌝ }
+{
+    let u = o.usage;
+    let c = o.command;
+    match u {
+        Usage::Right => carry_out(c, arg, out),
+        Usage::Wished => help(out),
+        Usage::NoCommand => misused(o, arg, out),
+        Usage::NoOption => misused(o, arg, out),
+        Usage::TooFew => misused(o, arg, out),
+        Usage::TooMany => misused(o, arg, out),
+        Usage::InputTwice => misused(o, arg, out),
+    }
+}
+
+fn main() {
+    let mut arg = [0u8; PATH_MAX];
+    let mut out = [0u8; LINE_ROOM];
+    let o = read_order(&mut arg);
+    let ending = obey(o, &mut arg, &mut out);
+    streams::tell_ending(ending);
+}
