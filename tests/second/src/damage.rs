@@ -222,7 +222,7 @@ fn rename_part(tables: &mut Tables, top: usize, part: u8) {
 }
 
 /// About as many actions as may be, at one depth or at several.
-fn many_actions(random: &mut Random, tables: &mut Tables) {
+pub fn many_actions(random: &mut Random, tables: &mut Tables) {
     if tables.messages.is_empty() {
         tables.add_message(b"m");
     }

@@ -5,11 +5,13 @@ mod case;
 mod commands;
 mod compare;
 mod damage;
+mod lines;
 mod mutant;
 mod noise;
 mod play;
 mod random;
 mod rules;
+mod scatter;
 mod score;
 mod scores;
 mod session;
@@ -23,11 +25,13 @@ use std::path::{Path, PathBuf};
 use std::process::ExitCode;
 
 const USAGE: &str = "usage:
-  second check FILE
+  second check FILE ..
+  second reply FILE
   second answer DIR
   second make SEED DIR
   second compare --runs N --seed S [--threads T] [--keep DIR] -- CMD ARG..
   second files SEED COUNT OUT
+  second scatter DIR SEED COUNT
   second noise SEED LINES
   second words";
 
@@ -66,11 +70,15 @@ fn run(arguments: &[OsString]) -> Result<bool, Fault> {
         return Err(Fault::Arguments);
     };
     match (command.to_str().unwrap_or(""), rest) {
-        ("check", [file]) => check(Path::new(file)),
+        ("check", files @ [_, ..]) => check(files),
+        ("reply", [file]) => reply(Path::new(file)),
         ("answer", [folder]) => answer(Path::new(folder)),
         ("make", [seed, folder]) => make(number(seed)?, Path::new(folder)),
         ("compare", rest) => compare(rest),
         ("files", [seed, count, out]) => files(number(seed)?, number(count)?, Path::new(out)),
+        ("scatter", [folder, seed, count]) => {
+            scatter(Path::new(folder), number(seed)?, number(count)?)
+        }
         ("noise", [seed, lines]) => {
             io::stdout().write_all(&noise::commands(number(seed)?, number(lines)?))?;
             Ok(true)
@@ -92,7 +100,17 @@ fn tally((passed, failed): (u64, u64)) -> bool {
     failed == 0
 }
 
-fn check(file: &Path) -> Result<bool, Fault> {
+/// A line for each file, in the order of the arguments.
+fn check(files: &[OsString]) -> Result<bool, Fault> {
+    let mut out = BufWriter::new(io::stdout().lock());
+    for file in files {
+        out.write_all(&lines::line(file))?;
+    }
+    out.flush()?;
+    Ok(true)
+}
+
+fn reply(file: &Path) -> Result<bool, Fault> {
     let (number, place) = score::check(&fs::read(file)?);
     println!("{number} {place}");
     Ok(true)
@@ -135,6 +153,16 @@ fn files(seed: u64, count: u64, out: &Path) -> Result<bool, Fault> {
     }
     batch.flush()?;
     lines.flush()?;
+    Ok(true)
+}
+
+/// Each seed's file for `check`, under its number in the row of seeds.
+fn scatter(folder: &Path, seed: u64, count: u64) -> Result<bool, Fault> {
+    fs::create_dir_all(folder)?;
+    for index in 0..count {
+        let file = scatter::file_of_seed(seed.wrapping_add(index));
+        fs::write(folder.join(format!("{index:04}.bin")), file)?;
+    }
     Ok(true)
 }
 

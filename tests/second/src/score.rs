@@ -153,7 +153,7 @@ fn u16_at(file: &[u8], place: usize) -> u64 {
     u64::from(u16::from_le_bytes([file[place], file[place + 1]]))
 }
 
-fn u32_at(file: &[u8], place: usize) -> u64 {
+pub fn u32_at(file: &[u8], place: usize) -> u64 {
     let bytes = [
         file[place],
         file[place + 1],

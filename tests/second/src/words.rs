@@ -1,9 +1,13 @@
 //! The paper's own small scores, with the values it gives written out by hand.
 
+use crate::lines::{line, reason, shown, verdict};
 use crate::play::play;
 use crate::rules::performance;
+use crate::scatter;
 use crate::score::{self, Entry, Tables};
 use crate::session::Session;
+use std::ffi::OsStr;
+use std::io;
 
 const LOOSE: u8 = 0;
 const TIGHT: u8 = 1;
@@ -168,6 +172,10 @@ pub fn words() -> (u64, u64) {
     one_second(&mut tally);
     written_play(&mut tally);
     file_check(&mut tally);
+    accepted_lines(&mut tally);
+    refused_lines(&mut tally);
+    names_and_reasons(&mut tally);
+    scattered(&mut tally);
     (tally.passed, tally.failed)
 }
 
@@ -282,4 +290,197 @@ fn file_check(tally: &mut Tally) {
     let mut longer = a_and_b(TIGHT, CAUSAL);
     longer.text.push(b'c');
     test("check: text not used up", &longer.encode(), (8, 24));
+}
+
+/// Byte by byte: events at 32, items at 40, messages at 76, text at 84, 87 bytes.
+/// Part 2 has a group with an action in it, part 9 an empty group.
+#[rustfmt::skip]
+const SMALL: [u8; 87] = [
+    32, 0, 0, 0, 2, 0, 0, 0,
+    40, 0, 0, 0, 3, 0, 0, 0,
+    76, 0, 0, 0, 2, 0, 0, 0,
+    84, 0, 0, 0, 3, 0, 0, 0,
+    5, 0, 0, 0,
+    7, 0, 0, 0,
+    1, 1, 3, 2, 0, 0, 0, 0, 1, 0, 1, 0,
+    0, 0, 0, 2, 6, 0, 0, 0, 0, 0, 1, 0,
+    1, 0, 0, 9, 0, 0, 0, 0, 2, 0, 0, 0,
+    0, 0, 1, 0,
+    1, 0, 2, 0,
+    b'a', b'b', 200,
+];
+
+/// One event, nothing else.
+#[rustfmt::skip]
+const SMALLEST: [u8; 36] = [
+    32, 0, 0, 0, 1, 0, 0, 0,
+    36, 0, 0, 0, 0, 0, 0, 0,
+    36, 0, 0, 0, 0, 0, 0, 0,
+    36, 0, 0, 0, 0, 0, 0, 0,
+    1, 0, 0, 0,
+];
+
+/// 1 event at 32, items from 36 on: so many actions of part 15, then message 0,
+/// one byte long.
+fn only_actions(count: u16) -> Vec<u8> {
+    let mut file = Vec::new();
+    let messages = 36 + 12 * u32::from(count);
+    for word in [32, 1, 36, count.into(), messages, 1, messages + 4, 1, 1] {
+        file.extend_from_slice(&u32::to_le_bytes(word));
+    }
+    for _ in 0..count {
+        file.extend_from_slice(&[0, 0, 0, 15, 0, 0, 0, 0, 1, 0, 0, 0]);
+    }
+    file.extend_from_slice(&[0, 0, 1, 0, b'z']);
+    file
+}
+
+fn accepted_lines(tally: &mut Tally) {
+    let mut test = |name: &str, file: &[u8], expected: &str| {
+        tally.note(name, verdict(file) == expected);
+    };
+    test(
+        "line: two parts, one without an action",
+        &SMALL,
+        "accepted, 2 events, 3 items, 1 actions, 2 messages, parts 2 9",
+    );
+    test(
+        "line: no item",
+        &SMALLEST,
+        "accepted, 1 events, 0 items, 0 actions, 0 messages, parts none",
+    );
+    test(
+        "line: 1,024 actions",
+        &only_actions(1_024),
+        "accepted, 1 events, 1024 items, 1024 actions, 1 messages, parts 15",
+    );
+}
+
+/// A byte of the small file, another value there, and what is said then.
+#[rustfmt::skip]
+const REFUSED: &[(usize, u8, &str)] = &[
+    (4, 0, "refused 4 at byte 4, count of events: a count outside its limits"),
+    (13, 8, "refused 4 at byte 12, count of items: a count outside its limits"),
+    (21, 2, "refused 4 at byte 20, count of messages: a count outside its limits"),
+    (29, 96, "refused 4 at byte 28, count of text bytes: a count outside its limits"),
+    (0, 33, "refused 5 at byte 0, offset of the events: an offset not as above"),
+    (8, 41, "refused 5 at byte 8, offset of the items: an offset not as above"),
+    (16, 75, "refused 5 at byte 16, offset of the messages: an offset not as above"),
+    (27, 1, "refused 5 at byte 24, offset of the text: an offset not as above"),
+    (28, 4, "refused 5: offsets right, file length wrong"),
+    (32, 0, "refused 6 at byte 32, event 1: an event's duration"),
+    (39, 1, "refused 6 at byte 36, event 2: an event's duration"),
+    (40, 2, "refused 7 at byte 40, item 0: an item against the rules; also the 1,025th action"),
+    (62, 2, "refused 7 at byte 52, item 1: an item against the rules; also the 1,025th action"),
+    (67, 16, "refused 7 at byte 64, item 2: an item against the rules; also the 1,025th action"),
+    (84, 127, "refused 8 at byte 76, message 0: a message entry or its label bytes"),
+    (82, 0, "refused 8 at byte 80, message 1: a message entry or its label bytes"),
+    (82, 1, "refused 8 at byte 24, offset of the text: entries right, text not used up"),
+];
+
+fn refused_lines(tally: &mut Tally) {
+    for &(place, byte, expected) in REFUSED {
+        let mut file = SMALL;
+        file[place] = byte;
+        let name = format!("line: byte {place} is {byte}");
+        tally.note(&name, verdict(&file) == expected);
+    }
+    let mut test = |name: &str, file: &[u8], expected: &str| {
+        tally.note(name, verdict(file) == expected);
+    };
+    let short = "refused 3: file under 32 bytes";
+    test("line: empty", b"", short);
+    test("line: 31 bytes", &SMALL[..31], short);
+    let length = "refused 5: offsets right, file length wrong";
+    test("line: 32 bytes", &SMALL[..32], length);
+    test("line: a byte more", &[&SMALL[..], b"c"].concat(), length);
+    test(
+        "line: the 1,025th action",
+        &only_actions(1_025),
+        "refused 7 at byte 12324, item 1024: an item against the rules; also the 1,025th action",
+    );
+}
+
+fn names_and_reasons(tally: &mut Tally) {
+    let mut test = |name: &str, got: &[u8], expected: &[u8]| {
+        tally.note(name, got == expected);
+    };
+    test("name: as given", &shown(b"a b/\"c\".bin"), b"a b/\"c\".bin");
+    test(
+        "name: control bytes",
+        &shown(b"\x01\n\x1f \x7f~"),
+        b"??? ?~",
+    );
+    test("name: bytes above 127", &shown(b"\x80\xff"), b"\x80\xff");
+    test("name: empty", &shown(b""), b"\"\"");
+    test("name: standard input", &shown(b"-"), b"-");
+    test(
+        "unreadable: an empty name",
+        &line(OsStr::new("")),
+        b"\"\": can't be read: no such file\n",
+    );
+    test(
+        "unreadable: a folder",
+        &line(OsStr::new("/")),
+        b"/: can't be read: a folder\n",
+    );
+    for (number, words) in [
+        (2, "no such file"),
+        (13, "no permission"),
+        (20, "error 20"),
+        (21, "a folder"),
+        (36, "the name is too long"),
+        (40, "error 40"),
+    ] {
+        let said = reason(&io::Error::from_raw_os_error(number));
+        test(
+            &format!("unreadable: error {number}"),
+            said.as_bytes(),
+            words.as_bytes(),
+        );
+    }
+}
+
+/// 400 files of `scatter` show every row, deep places, and figures of all kinds.
+fn scattered(tally: &mut Tally) {
+    let files: Vec<Vec<u8>> = (1..=400).map(scatter::file_of_seed).collect();
+    let said: Vec<String> = files.iter().map(|file| verdict(file)).collect();
+    for row in [
+        "accepted",
+        "refused 3:",
+        "refused 4 at byte 4,",
+        "refused 4 at byte 12,",
+        "refused 4 at byte 20,",
+        "refused 4 at byte 28,",
+        "refused 5 at byte 0,",
+        "refused 5 at byte 8,",
+        "refused 5 at byte 16,",
+        "refused 5 at byte 24,",
+        "refused 5:",
+        "refused 8 at byte 24,",
+    ] {
+        let found = said.iter().any(|line| line.starts_with(row));
+        tally.note(&format!("scatter: {row}"), found);
+    }
+    for entry in ["event", "item", "message"] {
+        let deep = deepest(&said, entry) >= 100;
+        tally.note(&format!("scatter: {entry} 100 or later"), deep);
+    }
+    let none = said.iter().any(|line| line.ends_with(" parts none"));
+    tally.note("scatter: no item", none);
+    let all = " parts 0 1 2 3 4 5 6 7 8 9 10 11 12 13 14 15";
+    let all = said.iter().any(|line| line.ends_with(all));
+    tally.note("scatter: all parts", all);
+    let long = files.iter().any(|file| file.len() >= 70_000);
+    tally.note("scatter: 70,000 bytes", long);
+}
+
+/// The highest number of such an entry that a refusal names.
+fn deepest(said: &[String], entry: &str) -> usize {
+    let before = format!(", {entry} ");
+    let number = |line: &String| {
+        let (_, rest) = line.split_once(&before)?;
+        rest.split(':').next()?.parse().ok()
+    };
+    said.iter().filter_map(number).max().unwrap_or(0)
 }

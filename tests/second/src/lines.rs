@@ -1,0 +1,174 @@
+//! What `check` says of each file: a line each.
+
+use crate::mutant;
+use crate::score::{
+    self, u32_at, Item, Refusal, Score, What, CONTENTS, EVENT_BYTES, ITEM_BYTES, MESSAGE_BYTES,
+};
+use std::ffi::OsStr;
+use std::fs;
+use std::io::{self, Read};
+use std::os::unix::ffi::OsStrExt;
+
+/// What stands in the contents, four bytes each.
+const IN_CONTENTS: [&str; 8] = [
+    "offset of the events",
+    "count of events",
+    "offset of the items",
+    "count of items",
+    "offset of the messages",
+    "count of messages",
+    "offset of the text",
+    "count of text bytes",
+];
+
+const NO_SUCH_FILE: i32 = 2;
+const NO_PERMISSION: i32 = 13;
+const A_FOLDER: i32 = 21;
+const NAME_TOO_LONG: i32 = 36;
+
+/// The whole line, with its newline, for a file as it is named in the arguments.
+pub fn line(argument: &OsStr) -> Vec<u8> {
+    let said = match contents_of(argument) {
+        Ok(file) => verdict(&file),
+        Err(error) => format!("can't be read: {}", reason(&error)),
+    };
+    let mut line = shown(argument.as_bytes());
+    line.extend(format!(": {said}\n").bytes());
+    line
+}
+
+fn contents_of(argument: &OsStr) -> io::Result<Vec<u8>> {
+    if argument != "-" {
+        return fs::read(argument);
+    }
+    let mut file = Vec::new();
+    io::stdin().read_to_end(&mut file)?;
+    Ok(file)
+}
+
+/// A name on one line, whatever its bytes; an empty one is seen as well.
+pub fn shown(name: &[u8]) -> Vec<u8> {
+    if name.is_empty() {
+        return b"\"\"".to_vec();
+    }
+    let show = |&byte: &u8| match byte {
+        0..=31 | 127 => b'?',
+        _ => byte,
+    };
+    name.iter().map(show).collect()
+}
+
+pub fn reason(error: &io::Error) -> String {
+    let words = match error.raw_os_error().unwrap_or(0) {
+        NO_SUCH_FILE => "no such file",
+        NO_PERMISSION => "no permission",
+        A_FOLDER => "a folder",
+        NAME_TOO_LONG => "the name is too long",
+        number => return format!("error {number}"),
+    };
+    String::from(words)
+}
+
+/// What follows the name of a file that could be read.
+pub fn verdict(file: &[u8]) -> String {
+    match score::read(file) {
+        Ok(score) => accepted(&score),
+        Err(refusal) => refused(file, refusal),
+    }
+}
+
+// -------------------------------------------------------------- accepted
+
+fn accepted(score: &Score) -> String {
+    let (mut items, mut actions) = (0, 0);
+    let mut used = [false; 16];
+    for sequence in &score.sequences {
+        let (all, played) = count(&sequence.items);
+        items += all;
+        actions += played;
+        if played > 0 || !mutant::is(mutant::PARTS_OF_ACTIONS_ONLY) {
+            used[sequence.part as usize] = true;
+        }
+    }
+    if mutant::is(mutant::GROUPS_COUNT_AS_ACTIONS) {
+        actions = items;
+    }
+    format!(
+        "accepted, {} events, {items} items, {actions} actions, {} messages, parts {}",
+        score.durations.len(),
+        score.labels.len(),
+        listed(&used)
+    )
+}
+
+/// How many items, deeper ones too, and how many of them are actions.
+fn count(items: &[Item]) -> (usize, usize) {
+    let (mut all, mut actions) = (0, 0);
+    for item in items {
+        all += 1;
+        match &item.what {
+            What::Action(_) => actions += 1,
+            What::Group(group) => {
+                let within = count(&group.body);
+                all += within.0;
+                actions += within.1;
+            }
+        }
+    }
+    (all, actions)
+}
+
+fn listed(used: &[bool; 16]) -> String {
+    let parts = (0..16).filter(|&part| used[part]);
+    let digits: Vec<String> = parts.map(|part| part.to_string()).collect();
+    if digits.is_empty() {
+        return String::from("none");
+    }
+    digits.join(" ")
+}
+
+// --------------------------------------------------------------- refused
+
+fn refused(file: &[u8], refusal: Refusal) -> String {
+    let Refusal { number, place } = refusal;
+    match (number, place) {
+        (3, _) => String::from("refused 3: file under 32 bytes"),
+        (5, 0) if u32_at(file, 0) == CONTENTS as u64 => {
+            String::from("refused 5: offsets right, file length wrong")
+        }
+        _ => format!(
+            "refused {number} at byte {place}, {}: {}",
+            entry(file, place),
+            when(number, place)
+        ),
+    }
+}
+
+/// The reply table's words for a row that names a byte.
+fn when(number: u64, place: usize) -> &'static str {
+    match (number, place) {
+        (4, _) => "a count outside its limits",
+        (5, _) => "an offset not as above",
+        (6, _) => "an event's duration",
+        (7, _) => "an item against the rules; also the 1,025th action",
+        (8, 24) => "entries right, text not used up",
+        _ => "a message entry or its label bytes",
+    }
+}
+
+/// What stands at this byte. Past the contents only where they are right.
+fn entry(file: &[u8], place: usize) -> String {
+    if place < CONTENTS {
+        return String::from(IN_CONTENTS[place / 4]);
+    }
+    let items = CONTENTS + EVENT_BYTES * u32_at(file, 4) as usize;
+    let messages = items + ITEM_BYTES * u32_at(file, 12) as usize;
+    if place < items {
+        return format!("event {}", 1 + (place - CONTENTS) / EVENT_BYTES);
+    }
+    if place < messages {
+        let first = usize::from(mutant::is(mutant::ITEMS_FROM_ONE));
+        return format!("item {}", first + (place - items) / ITEM_BYTES);
+    }
+    format!("message {}", (place - messages) / MESSAGE_BYTES)
+}
