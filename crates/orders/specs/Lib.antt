@@ -4,3 +4,4 @@ pub mod Rows
 pub mod Help
 pub mod Usage
 pub mod Said
+pub mod Endings

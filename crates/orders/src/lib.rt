@@ -5,11 +5,14 @@ pub use arguments::close;
 pub use arguments::is_input;
 pub use arguments::nothing;
 pub use arguments::take;
+pub use ending::ending_of;
+pub use ending::printed_ending;
 pub use listing::help_text;
 pub use said::misuse_line;
 pub use said::show;
 
 mod arguments;
+mod ending;
 mod listing;
 mod said;
 mod table;

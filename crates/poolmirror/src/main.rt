@@ -2,6 +2,7 @@
 ghost use mathlib.Core.Path.{_≡_};
 ghost use Prim.Native.Nat.{_+_, _≤_};
 ghost use lib.ListN.{length};
+use checking::Came;
 use checking::Tally;
 use disk::FileRead;
 use libc::PATH_MAX;
@@ -172,7 +173,7 @@ fn check(arg: &mut [u8], file: &mut [u8], out: &mut [u8]) -> Ending
 {
     let s = check_names(arg, file, out);
     if s.failed {
-        return Ending::Failed;
+        return orders::printed_ending(false);
     }
     let tally = s.tally;
     say_tally(out, tally);
@@ -254,7 +255,7 @@ fn say_unread(out: &mut [u8], name: &[u8], error: i32) -> Ending
 {
     let n = checking::unread_line(out, name, error);
     streams::say_first(out, n);
-    Ending::Failed
+    checking::ending_of(checking::count_file(checking::no_files(), Came::Unread))
 }
 
 // The commands' descriptor, or -1.
@@ -333,28 +334,21 @@ fn play(score: &mut [u8], list: &mut [u8], file: &mut [u8], out: &mut [u8]) -> E
 
 // ---- words
 
-fn ended(written: bool) -> Ending {
-    if written {
-        return Ending::Done;
-    }
-    Ending::Failed
-}
-
 fn help(out: &mut [u8]) -> Ending
     requires { ⌜ 8192 ≤ length (now out) ⌝ }
 {
     let n = orders::help_text(out);
-    ended(streams::print(out, n))
+    orders::printed_ending(streams::print(out, n))
 }
 
 fn replies(out: &mut [u8]) -> Ending
     requires { ⌜ 8192 ≤ length (now out) ⌝ }
 {
     let n = wording::reply_lines(out);
-    ended(streams::print(out, n))
+    orders::printed_ending(streams::print(out, n))
 }
 
-// A wrong usage is told with the argument at fault.
+// A wrong usage is told with the argument at fault, and nothing is done.
 fn misused(o: Order, arg: &mut [u8], out: &mut [u8]) -> Ending
     requires { ⌜ (length (now arg) ≡ 4096) × (8192 ≤ length (now out)) ⌝ }
 {
@@ -363,7 +357,8 @@ fn misused(o: Order, arg: &mut [u8], out: &mut [u8]) -> Ending
     let shown = show_name(arg, n);
     let m = orders::misuse_line(out, o, &arg[from..shown]);
     streams::say_first(out, m);
-    Ending::Failed
+    let u = o.usage;
+    orders::ending_of(u, Ending::Done)
 }
 
 // ---- the program
