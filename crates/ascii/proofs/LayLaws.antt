@@ -58,6 +58,9 @@ laid-before o m xs a b v p laid =
       size = z;
     }
 
+pub laid-nothing : (o : List ℕ) (a : ℕ) → a ≤ length o → Laid o a [] o a
+laid-nothing o a p = record { front = sym (append-nil (take a o)); others = refl; stop = omega arith; within = p; size = refl }
+
 -- ---- byte by byte
 
 pub laid-none : (o s : List ℕ) (a : ℕ) → a + length s ≤ length o → Laid o a (take 0 s) o (a + 0)

@@ -11,7 +11,8 @@ use lib.Seq.{drop-cons}
 use borrow.Author.Tests.{eq-eqb, ne-eqb}
 use borrow.Author.Needs.{needs}
 use Rattle.base.specs.Tests.{pick}
-use Rattle.ascii.specs.Words.{begins, bytesBefore}
+use Rattle.base.proofs.TestLaws.{every-pass, every-stop, every-last}
+use Rattle.ascii.specs.Words.{begins, same, bytesBefore}
 
 -- the bytes from i on, in the code's own terms
 pub drop-next : (l : List ℕ) (i : ℕ) → i < length l → drop i l ≡ getD l i 0 ∷ drop (i + 1) l
@@ -40,7 +41,15 @@ module _ (word line : List ℕ) (i : ℕ) (W : Bool) (inv : begins (drop i word)
     unfolding begins pick
     begins-step p q = rw (drop-next word i more, drop-next line i p, eq-eqb (getD word i 0) (getD line i 0) q) at inv
 
-pub ruleset comparing = (begins-start, begins-done, begins-short, begins-other, begins-step, needs)
+pub same-shorter : (word bytes : List ℕ) → (length word ≡ length bytes → ⊥) → false ≡ same word bytes
+unfolding same
+same-shorter word bytes p = every-stop _ _ (ne-eqb (length word) (length bytes) p)
+
+pub same-begins : (word bytes : List ℕ) (r : Bool) → length word ≡ length bytes → r ≡ begins word bytes → r ≡ same word bytes
+unfolding same
+same-begins word bytes r p q = every-pass _ _ _ (eq-eqb (length word) (length bytes) p) (every-last _ _ q)
+
+pub ruleset comparing = (begins-start, begins-done, begins-short, begins-other, begins-step, same-shorter, same-begins, needs)
 
 -- ---- the first byte that is stop
 

@@ -3,7 +3,8 @@ use Prim.Native.Nat.{ℕ, suc}
 use mathlib.Core.Bool.{Bool, true, false}
 use mathlib.Core.List.{List, [], _∷_}
 use lib.Dec.{eqb}
-use Rattle.base.specs.Tests.{pick}
+use lib.ListN.{length}
+use Rattle.base.specs.Tests.{pick, every}
 
 abbrev pub space : ℕ
 space = 32
@@ -22,6 +23,10 @@ unfoldable pub begins : List ℕ → List ℕ → Bool
 begins [] bytes = true
 begins (w ∷ ws) [] = false
 begins (w ∷ ws) (b ∷ bs) = pick (eqb w b) (begins ws bs) false
+
+-- The bytes are this word, all of them.
+unfoldable pub same : List ℕ → List ℕ → Bool
+same word bytes = every (eqb (length word) (length bytes) ∷ begins word bytes ∷ [])
 
 -- How many bytes stand before the first that is this one.
 unfoldable pub bytesBefore : ℕ → List ℕ → ℕ

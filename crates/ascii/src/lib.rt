@@ -5,6 +5,7 @@ pub use laying::put_number;
 pub use numbers::read_number;
 pub use words::begins;
 pub use words::bytes_before;
+pub use words::same;
 
 mod laying;
 mod numbers;

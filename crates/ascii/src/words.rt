@@ -2,7 +2,7 @@
 ghost use mathlib.Core.Path.{_≡_};
 ghost use Prim.Native.Nat.{_≤_};
 ghost use lib.ListN.{length};
-ghost use Rattle.ascii.specs.Words.{begins, bytesBefore};
+ghost use Rattle.ascii.specs.Words.{begins, same, bytesBefore};
 
 // Whether the bytes begin with this word.
 pub fn begins(word: &[u8], bytes: &[u8]) -> bool
@@ -21,6 +21,16 @@ pub fn begins(word: &[u8], bytes: &[u8]) -> bool
         i += 1;
     }
     true
+}
+
+// Whether the bytes are this word.
+pub fn same(word: &[u8], bytes: &[u8]) -> bool
+    ensures { λ r. ⌜ r ≡ same (now (word .entry)) (now (bytes .entry)) ⌝ }
+{
+    if word.len() != bytes.len() {
+        return false;
+    }
+    begins(word, bytes)
 }
 
 // How many bytes stand before the first that is `stop`: all of them where none is.

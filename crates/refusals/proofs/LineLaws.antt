@@ -11,13 +11,12 @@ use Rattle.base.specs.Tests.{pick}
 use Rattle.ascii.specs.Words.{newline}
 use Rattle.ascii.specs.Decimals.{decimal}
 use Rattle.ascii.specs.Laying.{Laid}
-use Rattle.ascii.proofs.LayLaws.{laid-join}
+use Rattle.ascii.proofs.LayLaws.{laid-join, laid-nothing}
 use Rattle.contents.specs.declared.Reply.{Reply}
 use Rattle.session.specs.declared.Refusal.{Refusal}
 use Rattle.session.specs.Replies.{refusalRow}
 use Rattle.ascii.specs.Text.{bytesOf}
 use Rattle.wording.specs.Words.{refusalWords, placed}
-use Rattle.wording.proofs.FigureLaws.{laid-nothing}
 use Rattle.refusals.specs.declared.entries.Entry.{Entry}
 use Rattle.refusals.specs.Entries.{entryOf, entryWords}
 use Rattle.refusals.specs.Line.{atByte, placeWords, placeRoom, whereWords, refusalLine}

@@ -12,10 +12,10 @@ use borrow.Author.Tests.{leb-true}
 use Rattle.ascii.specs.Decimals.{decimal}
 use Rattle.ascii.specs.Laying.{Laid}
 use Rattle.ascii.specs.Text.{bytesOf}
+use Rattle.ascii.proofs.LayLaws.{laid-nothing}
 use Rattle.refusals.specs.declared.entries.Entry.{Entry}
 use Rattle.refusals.specs.declared.entries.Entry.the-variants.{Nowhere, Contents, Event, Item, Message}
 use Rattle.refusals.specs.Entries.{fieldWords, fieldCount, entryWords, entryRoom}
-use Rattle.wording.proofs.FigureLaws.{laid-nothing}
 
 -- ---- a field of the contents
 

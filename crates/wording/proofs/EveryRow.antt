@@ -16,16 +16,16 @@ use Rattle.wording.proofs.Apart.{faultRowAt, rowAt}
 
 -- ---- every refusal has its row
 
-unfoldable pub rowOf : Refusal → Refusal
-rowOf x = getD refusalRows (rowAt x) MemoryShort
+unfoldable pub listedRow : Refusal → Refusal
+listedRow x = getD refusalRows (rowAt x) MemoryShort
 
 pub record Listed (x : Refusal) : Type 0 where
   pub within : rowAt x < length refusalRows
-  pub number : refusalRow (rowOf x) .number ≡ refusalRow x .number
-  pub words : refusalWords (rowOf x) ≡ refusalWords x
+  pub number : refusalRow (listedRow x) .number ≡ refusalRow x .number
+  pub words : refusalWords (listedRow x) ≡ refusalWords x
 
 fault-listed : (x : Fault) → Listed (File x)
-unfolding rowOf rowAt faultRowAt refusalRows refusalRow faultRow refusalWords faultWords
+unfolding listedRow rowAt faultRowAt refusalRows refusalRow faultRow refusalWords faultWords
 fault-listed FileShort = record { within = omega arith; number = refl; words = refl }
 fault-listed (BadCount at) = record { within = omega arith; number = refl; words = refl }
 fault-listed (BadOffset at) = record { within = omega arith; number = refl; words = refl }
@@ -37,7 +37,7 @@ fault-listed TextLeft = record { within = omega arith; number = refl; words = re
 fault-listed NoMessage = record { within = omega arith; number = refl; words = refl }
 
 pub every-row : (x : Refusal) → Listed x
-unfolding rowOf rowAt refusalRows refusalRow refusalWords
+unfolding listedRow rowAt refusalRows refusalRow refusalWords
 every-row MemoryShort = record { within = omega arith; number = refl; words = refl }
 every-row RoomShort = record { within = omega arith; number = refl; words = refl }
 every-row (File x) = fault-listed x

@@ -13,13 +13,12 @@ use Rattle.ascii.specs.Words.{space, newline}
 use Rattle.ascii.specs.Decimals.{digitsOf, decimal}
 use Rattle.ascii.specs.Laying.{Laid}
 use Rattle.ascii.specs.Text.{bytesOf}
-use Rattle.ascii.proofs.LayLaws.{laid-join}
+use Rattle.ascii.proofs.LayLaws.{laid-join, laid-nothing}
 use Rattle.contents.specs.declared.Reply.{Reply}
 use Rattle.session.specs.declared.Refusal.{Refusal}
 use Rattle.session.specs.declared.Refusal.the-variants.{MemoryShort}
 use Rattle.session.specs.Replies.{refusalRow}
 use Rattle.wording.specs.Words.{refusalWords, refusalRows, rowCount, doneNumber, doneWords, replyLine, rowRoom, rowLines, replyLines}
-use Rattle.wording.proofs.FigureLaws.{laid-nothing}
 
 -- ---- which row
 
