@@ -1,35 +1,40 @@
--- Calls of the program, what it tells of them, and the whole of what `help` prints, worked out by the definitions.
+-- Calls of the program, and what it tells of them, worked out by the definitions.
 -- Assumes nothing.
 use mathlib.Core.Path.{_≡_, refl}
 use mathlib.Core.Bool.{true, false}
-use mathlib.Core.List.{List, [], _∷_, _++_, map}
+use mathlib.Core.List.{List, [], _∷_, map}
 use Prim.Native.Nat.{ℕ}
 use Rattle.base.specs.Tests.{pick, every}
 use Rattle.ascii.specs.Text.{bytesOf}
-use Rattle.ascii.specs.Words.{begins}
-use Rattle.orders.specs.declared.Command.{Command}
-use Rattle.orders.specs.declared.Command.the-variants.{Check, Play, Replies, Help}
+use Rattle.ascii.specs.Words.{begins, same}
+use Rattle.menu.specs.declared.Command.{Command}
+use Rattle.menu.specs.declared.Command.the-variants.{Check, Play, Replies, Help}
 use Rattle.orders.specs.declared.Usage.{Usage}
 use Rattle.orders.specs.declared.Usage.the-variants.{Right, Wished, NoCommand, NoOption, TooFew, TooMany, InputTwice}
+use Rattle.orders.specs.declared.Names.{Names}
 use Rattle.orders.specs.declared.Order.{Order}
-use Rattle.orders.specs.Table.{rowOf, commands, same, namedIn, commandNamed}
-use Rattle.orders.specs.Help.{spaces, padded, commandLine, commandLines, helpHead, helpEnd, helpText}
-use Rattle.orders.specs.Usage.{argumentOf, fresh, stopped, isRight, begunNamed, begunAs, begun, counted, nameTaken, takenPlain, takenAs, taken, closed, takenAll, ordered}
-use Rattle.orders.specs.Said.{usageLine, fault, faultUsage, missing, misuseOf, misuseLine, shownByte, shown}
+use Rattle.menu.specs.Table.{rowOf, commands, namedIn, commandNamed}
+use Rattle.orders.specs.Usage.{argumentOf, noNames, oneMore, fresh, stopped, isRight, begunNamed, begunAs, begun, named, nameTaken, takenPlain, takenAs, taken, closed, takenAll, ordered}
+use Rattle.orders.specs.Said.{usageLine, fault, faultUsage, missing, misuseOf, misuseLine, shownByte, shown, firstLine}
 
--- what a call came to: the command, how many names and standard inputs, and what is wrong with which argument
-abbrev order : Command → (names inputs : ℕ) → Usage → (at : ℕ) → Order
-order c names inputs u at = record { command = c; names = names; inputs = inputs; plain = false; usage = u; at = at }
+-- how many names, and which arguments the first two are
+abbrev names : (count first second : ℕ) → Names
+names count first second = record { count = count; first = first; second = second }
+
+-- what a call came to: the command, its names, how many are standard input, and what is wrong with which argument
+abbrev order : Command → Names → (inputs : ℕ) → Usage → (at : ℕ) → Order
+order c n inputs u at = record { command = c; names = n; inputs = inputs; plain = false; usage = u; at = at }
 
 -- ---- as the usage says
 
-pub nothing-ordered : ordered [] ≡ order Help 0 0 Wished 0
-unfolding fresh ordered
+pub nothing-ordered : ordered [] ≡ order Help (names 0 0 0) 0 Wished 0
+unfolding noNames fresh ordered
 nothing-ordered = refl
 
 abbrev rightCalls : List (List (List ℕ))
 rightCalls = (bytesOf "check" ∷ bytesOf "a" ∷ bytesOf "b" ∷ [])
     ∷ (bytesOf "check" ∷ bytesOf "-" ∷ bytesOf "" ∷ [])
+    ∷ (bytesOf "check" ∷ bytesOf "a" ∷ bytesOf "b" ∷ bytesOf "c" ∷ [])
     ∷ (bytesOf "play" ∷ bytesOf "a" ∷ bytesOf "-" ∷ [])
     ∷ (bytesOf "replies" ∷ [])
     ∷ (bytesOf "help" ∷ [])
@@ -39,22 +44,27 @@ rightCalls = (bytesOf "check" ∷ bytesOf "a" ∷ bytesOf "b" ∷ [])
     ∷ []
 
 pub right-calls : map ordered rightCalls
-    ≡ order Check 2 0 Right 0
-    ∷ order Check 2 1 Right 0
-    ∷ order Play 2 1 Right 0
-    ∷ order Replies 0 0 Right 0
-    ∷ order Help 0 0 Right 0
-    ∷ order Help 0 0 Wished 0
-    ∷ order Help 0 0 Wished 0
-    ∷ order Check 0 0 Wished 0
+    ≡ order Check (names 2 2 3) 0 Right 0
+    ∷ order Check (names 2 2 3) 1 Right 0
+    ∷ order Check (names 3 2 3) 0 Right 0
+    ∷ order Play (names 2 2 3) 1 Right 0
+    ∷ order Replies (names 0 0 0) 0 Right 0
+    ∷ order Help (names 0 0 0) 0 Right 0
+    ∷ order Help (names 0 0 0) 0 Wished 0
+    ∷ order Help (names 0 0 0) 0 Wished 0
+    ∷ order Check (names 0 0 0) 0 Wished 0
     ∷ []
-unfolding pick every begins rowOf commands same namedIn commandNamed argumentOf fresh stopped isRight begunNamed begunAs begun counted nameTaken takenPlain takenAs taken closed takenAll ordered
+unfolding pick every begins rowOf commands same namedIn commandNamed argumentOf noNames oneMore fresh stopped isRight begunNamed begunAs begun named nameTaken takenPlain takenAs taken closed takenAll ordered
 right-calls = refl
 
--- behind `--` what begins with a dash is a name, and `-` is standard input still
-pub dashes-passed : ordered (bytesOf "check" ∷ bytesOf "--" ∷ bytesOf "-x" ∷ bytesOf "-" ∷ []) ≡ record { command = Check; names = 2; inputs = 1; plain = true; usage = Right; at = 0 }
-unfolding pick every begins rowOf commands same namedIn commandNamed argumentOf fresh stopped isRight begunNamed begunAs begun counted nameTaken takenPlain takenAs taken closed takenAll ordered
+-- behind `--` what begins with a dash is a name, and `-` is standard input still; the `--` itself is no name
+pub dashes-passed : ordered (bytesOf "play" ∷ bytesOf "a" ∷ bytesOf "--" ∷ bytesOf "-x" ∷ []) ≡ record { command = Play; names = names 2 2 4; inputs = 0; plain = true; usage = Right; at = 0 }
+unfolding pick every begins rowOf commands same namedIn commandNamed argumentOf noNames oneMore fresh stopped isRight begunNamed begunAs begun named nameTaken takenPlain takenAs taken closed takenAll ordered
 dashes-passed = refl
+
+pub input-behind-dashes : ordered (bytesOf "check" ∷ bytesOf "--" ∷ bytesOf "-x" ∷ bytesOf "-" ∷ []) ≡ record { command = Check; names = names 2 3 4; inputs = 1; plain = true; usage = Right; at = 0 }
+unfolding pick every begins rowOf commands same namedIn commandNamed argumentOf noNames oneMore fresh stopped isRight begunNamed begunAs begun named nameTaken takenPlain takenAs taken closed takenAll ordered
+input-behind-dashes = refl
 
 -- ---- wrong, and at which argument
 
@@ -68,27 +78,27 @@ wrongCalls = (bytesOf "chekc" ∷ bytesOf "a" ∷ [])
     ∷ []
 
 pub wrong-calls : map ordered wrongCalls
-    ≡ order Help 0 0 NoCommand 1
-    ∷ order Check 0 0 TooFew 1
-    ∷ order Check 1 0 NoOption 3
-    ∷ order Play 2 0 TooMany 4
-    ∷ order Play 1 1 InputTwice 3
-    ∷ order Help 0 0 NoOption 2
+    ≡ order Help (names 0 0 0) 0 NoCommand 1
+    ∷ order Check (names 0 0 0) 0 TooFew 1
+    ∷ order Check (names 1 2 0) 0 NoOption 3
+    ∷ order Play (names 2 2 3) 0 TooMany 4
+    ∷ order Play (names 1 2 0) 1 InputTwice 3
+    ∷ order Help (names 0 0 0) 0 NoOption 2
     ∷ []
-unfolding pick every begins rowOf commands same namedIn commandNamed argumentOf fresh stopped isRight begunNamed begunAs begun counted nameTaken takenPlain takenAs taken closed takenAll ordered
+unfolding pick every begins rowOf commands same namedIn commandNamed argumentOf noNames oneMore fresh stopped isRight begunNamed begunAs begun named nameTaken takenPlain takenAs taken closed takenAll ordered
 wrong-calls = refl
 
 -- ---- what is told
 
-pub unknown-told : misuseLine (order Help 0 0 NoCommand 1) (bytesOf "chekc") ≡ bytesOf "bin/poolmirror: chekc: no such command. bin/poolmirror help lists the commands.\n"
+pub unknown-told : misuseLine (order Help (names 0 0 0) 0 NoCommand 1) (bytesOf "chekc") ≡ bytesOf "bin/poolmirror: chekc: no such command. bin/poolmirror help lists the commands.\n"
 unfolding fault misuseOf misuseLine
 unknown-told = refl
 
-pub missing-told : misuseLine (order Check 0 0 TooFew 1) (bytesOf "check") ≡ bytesOf "bin/poolmirror: check: an argument is missing\nusage: bin/poolmirror check FILE ..\n"
+pub missing-told : misuseLine (order Check (names 0 0 0) 0 TooFew 1) (bytesOf "check") ≡ bytesOf "bin/poolmirror: check: an argument is missing\nusage: bin/poolmirror check FILE ..\n"
 unfolding rowOf usageLine fault faultUsage missing misuseOf misuseLine
 missing-told = refl
 
-pub twice-told : misuseLine (order Play 1 1 InputTwice 3) (bytesOf "-") ≡ bytesOf "bin/poolmirror: -: standard input can't be read twice\nusage: bin/poolmirror play FILE COMMANDS\n"
+pub twice-told : misuseLine (order Play (names 1 2 0) 1 InputTwice 3) (bytesOf "-") ≡ bytesOf "bin/poolmirror: -: standard input can't be read twice\nusage: bin/poolmirror play FILE COMMANDS\n"
 unfolding rowOf usageLine fault faultUsage missing misuseOf misuseLine
 twice-told = refl
 
@@ -96,14 +106,10 @@ pub newline-shown : shown (bytesOf "a\nb") ≡ bytesOf "a?b"
 unfolding pick shownByte shown
 newline-shown = refl
 
-pub help-told : helpText
-    ≡ bytesOf "usage: bin/poolmirror COMMAND ARGS\n\n"
-    ++ (bytesOf "  check FILE ..         says of each file whether it is accepted and what is in it, or why it is refused\n"
-    ++ (bytesOf "  play FILE COMMANDS    plays a score by commands, and prints what the electronics are sent\n"
-    ++ (bytesOf "  replies               lists the reply numbers with their words\n"
-    ++ (bytesOf "  help                  lists the commands\n\n"
-    ++ (bytesOf "A name of a file may be - for standard input. Before a name that begins with a dash write --\n"
-    ++ (bytesOf "Status: 0 done, 1 refused, 2 wrong usage, or something can't be read or written\n"
-    ++ bytesOf "docs/POOLMIRROR.md says more.\n"))))))
-unfolding rowOf commands spaces padded commandLine commandLines helpHead helpEnd helpText
-help-told = refl
+pub empty-shown : shown [] ≡ bytesOf "\"\""
+unfolding shown
+empty-shown = refl
+
+pub first-line-told : firstLine (bytesOf "commands") ≡ bytesOf "commands:1"
+unfolding firstLine
+first-line-told = refl

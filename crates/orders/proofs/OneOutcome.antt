@@ -2,27 +2,23 @@
 -- Assumes nothing.
 use mathlib.Core.Path.{_≡_, sym, _∙_}
 use mathlib.Core.Bool.{Bool}
-use mathlib.Core.List.{List, map}
+use mathlib.Core.List.{List}
 use Prim.Native.Nat.{ℕ}
+use lib.ListN.{take}
 use Rattle.ascii.specs.Laying.{Laid}
 use Rattle.ascii.proofs.OneOutcome.{one-laid, one-stop}
-use Rattle.orders.specs.declared.Argument.{Argument}
 use Rattle.orders.specs.declared.Order.{Order}
-use Rattle.orders.specs.Help.{helpText}
-use Rattle.orders.specs.Usage.{argumentOf, begun, taken, closed}
-use Rattle.orders.specs.Said.{misuseLine, shownByte}
+use Rattle.orders.specs.Usage.{argumentOf, isName, begun, taken, closed}
+use Rattle.orders.specs.Said.{misuseLine, shown, firstLine}
 
 one : {A : Type 0} (x y z : A) → x ≡ z → y ≡ z → x ≡ y
 one x y z p q = p ∙ sym q
 
-pub one-help : (o n n′ : List ℕ) (r r′ : ℕ) → Laid o 0 helpText n r → Laid o 0 helpText n′ r′ → (n ≡ n′) × (r ≡ r′)
-one-help o n n′ r r′ p q = (one-laid o helpText n n′ 0 r r′ p q, one-stop o helpText n n′ 0 r r′ p q)
-
 pub one-misuse : (x : Order) (arg o n n′ : List ℕ) (r r′ : ℕ) → Laid o 0 (misuseLine x arg) n r → Laid o 0 (misuseLine x arg) n′ r′ → (n ≡ n′) × (r ≡ r′)
 one-misuse x arg o n n′ r r′ p q = (one-laid o (misuseLine x arg) n n′ 0 r r′ p q, one-stop o (misuseLine x arg) n n′ 0 r r′ p q)
 
-pub one-argument : (plain : Bool) (arg : List ℕ) (r r′ : Argument) → r ≡ argumentOf plain arg → r′ ≡ argumentOf plain arg → r ≡ r′
-one-argument plain arg r r′ p q = one r r′ _ p q
+pub one-name : (o : Order) (arg : List ℕ) (r r′ : Bool) → r ≡ isName (argumentOf (o .plain) arg) → r′ ≡ isName (argumentOf (o .plain) arg) → r ≡ r′
+one-name o arg r r′ p q = one r r′ _ p q
 
 pub one-begun : (arg : List ℕ) (r r′ : Order) → r ≡ begun arg → r′ ≡ begun arg → r ≡ r′
 one-begun arg r r′ p q = one r r′ _ p q
@@ -33,5 +29,8 @@ one-taken o i arg r r′ p q = one r r′ _ p q
 pub one-closed : (o r r′ : Order) → r ≡ closed o → r′ ≡ closed o → r ≡ r′
 one-closed o r r′ p q = one r r′ _ p q
 
-pub one-shown : (o n n′ : List ℕ) → n ≡ map shownByte o → n′ ≡ map shownByte o → n ≡ n′
-one-shown o n n′ p q = one n n′ _ p q
+pub one-shown : (o n n′ : List ℕ) (k r r′ : ℕ) → Laid o 0 (shown (take k o)) n r → Laid o 0 (shown (take k o)) n′ r′ → (n ≡ n′) × (r ≡ r′)
+one-shown o n n′ k r r′ p q = (one-laid o (shown (take k o)) n n′ 0 r r′ p q, one-stop o (shown (take k o)) n n′ 0 r r′ p q)
+
+pub one-first-line : (name o n n′ : List ℕ) (r r′ : ℕ) → Laid o 0 (firstLine name) n r → Laid o 0 (firstLine name) n′ r′ → (n ≡ n′) × (r ≡ r′)
+one-first-line name o n n′ r r′ p q = (one-laid o (firstLine name) n n′ 0 r r′ p q, one-stop o (firstLine name) n n′ 0 r r′ p q)

@@ -9,7 +9,7 @@ use native.Mathlib.Omega.{arith}
 use lib.ListN.{length, getD, drop, drop-of-length-le}
 use lib.Seq.{drop-cons}
 use Rattle.base.specs.Tests.{pick}
-use Rattle.orders.specs.declared.Command.the-variants.{Help}
+use Rattle.menu.specs.declared.Command.the-variants.{Help}
 use Rattle.orders.specs.declared.Usage.the-variants.{Wished}
 use Rattle.orders.specs.declared.Order.{Order}
 use Rattle.orders.specs.Usage.{fresh, isRight, begun, taken, closed, takenAll, ordered}
@@ -42,7 +42,11 @@ pub fault-stays : (o : Order) (i : ℕ) (arg : List ℕ) → isRight (o .usage) 
 unfolding taken pick
 fault-stays o i arg e = rw e
 
+pub fault-all : (o : Order) (i : ℕ) (args : List (List ℕ)) → isRight (o .usage) ≡ false → takenAll o i args ≡ o
+unfolding takenAll
+fault-all o i [] e = refl
+fault-all o i (arg ∷ args) e = ap (λ (x : Order). takenAll x (suc i) args) (fault-stays o i arg e) ∙ fault-all o (suc i) args e
+
 pub fault-decides : (o : Order) (i : ℕ) (args : List (List ℕ)) → isRight (o .usage) ≡ false → closed (takenAll o i args) ≡ o
-unfolding takenAll closed pick
-fault-decides o i [] e = rw e
-fault-decides o i (arg ∷ args) e = ap (λ (x : Order). closed (takenAll x (suc i) args)) (fault-stays o i arg e) ∙ fault-decides o (suc i) args e
+unfolding closed pick
+fault-decides o i args e = rw (fault-all o i args e, e)

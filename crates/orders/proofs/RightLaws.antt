@@ -3,34 +3,36 @@
 use mathlib.Core.Path.{_≡_, refl}
 use mathlib.Core.Bool.{Bool, true, false}
 use mathlib.Core.List.{List, [], _∷_}
-use Prim.Native.Nat.{ℕ, suc, _<_, _≤_}
+use Prim.Native.Nat.{ℕ, suc, _+_, _<_, _≤_}
 use native.Mathlib.Omega.{arith}
-use lib.Dec.{leb, ltb}
+use lib.Dec.{eqb, leb, ltb}
 use borrow.Author.Tests.{leb-false, ltb-false}
 use Rattle.base.specs.Tests.{pick}
-use Rattle.orders.specs.declared.Command.{Command}
+use Rattle.ascii.specs.Words.{same}
+use Rattle.menu.specs.declared.Command.{Command}
 use Rattle.orders.specs.declared.Argument.{Argument}
 use Rattle.orders.specs.declared.Argument.the-variants.{Name, Plain, Wish, Dashed}
 use Rattle.orders.specs.declared.Usage.{Usage}
 use Rattle.orders.specs.declared.Usage.the-variants.{Right, TooFew, TooMany, InputTwice}
+use Rattle.orders.specs.declared.Names.{Names}
 use Rattle.orders.specs.declared.Order.{Order}
-use Rattle.orders.specs.declared.table.Named.{Named}
-use Rattle.orders.specs.declared.table.Named.the-variants.{Known, Unknown}
-use Rattle.orders.specs.Table.{rowOf, same, commandNamed}
-use Rattle.orders.specs.Usage.{dash, argumentOf, fresh, stopped, isRight, begunNamed, begunAs, begun, counted, nameTaken, takenPlain, takenAs, taken, closed, takenAll, ordered}
+use Rattle.menu.specs.declared.table.Found.{Found}
+use Rattle.menu.specs.declared.table.Found.the-variants.{Known, Unknown}
+use Rattle.menu.specs.Table.{rowOf, commandNamed}
+use Rattle.orders.specs.Usage.{dash, argumentOf, noNames, oneMore, fresh, stopped, isRight, begunNamed, begunAs, begun, named, nameTaken, takenPlain, takenAs, taken, closed, takenAll, ordered}
 
 -- no more names than the command takes, and standard input once at most
 pub record Fitting (o : Order) : Type 0 where
-  pub few : o .names ≤ rowOf (o .command) .most
+  pub few : o .names .count ≤ rowOf (o .command) .most
   pub single : o .inputs ≤ 1
 
 -- ---- the first argument
 
 fresh-fits : (c : Command) (u : Usage) (at : ℕ) → Fitting (fresh c u at)
-unfolding fresh
+unfolding fresh noNames
 fresh-fits c u at = record { few = omega arith; single = omega arith }
 
-named-fits : (n : Named) → Fitting (begunNamed n)
+named-fits : (n : Found) → Fitting (begunNamed n)
 unfolding begunNamed
 named-fits (Known c) = fresh-fits c _ _
 named-fits Unknown = fresh-fits _ _ _
@@ -44,24 +46,37 @@ begun-as-fits Dashed arg = named-fits (commandNamed arg)
 
 -- ---- one argument more
 
+pub more-counted : (n : Names) (i : ℕ) → oneMore n i .count ≡ n .count + 1
+unfolding oneMore pick
+more-counted n i = go (eqb (n .count) 0) (eqb (n .count) 1) where
+  go : (s t : Bool)
+      → pick {A = Names} s (record { count = n .count + 1; first = i; second = n .second })
+      (pick t (record { count = n .count + 1; first = n .first; second = i }) (record { count = n .count + 1; first = n .first; second = n .second })) .count
+      ≡ n .count + 1
+  go true t = refl
+  go false true = refl
+  go false false = refl
+
 module _ (o : Order) (f : Fitting o) where
   stopped-fits : (u : Usage) (at : ℕ) → Fitting (stopped o u at)
   unfolding stopped
   stopped-fits u at = record { few = f .few; single = f .single }
 
-  counted-fits : (n : ℕ) → o .names < rowOf (o .command) .most → n ≤ 1 → Fitting (counted o n)
-  unfolding counted
-  counted-fits n p q = record { few = omega arith; single = q }
+  named-more-fits : (i n : ℕ) → o .names .count < rowOf (o .command) .most → n ≤ 1 → Fitting (named o i n)
+  unfolding named
+  named-more-fits i n p q =
+      let c : oneMore (o .names) i .count ≡ o .names .count + 1 = more-counted (o .names) i in
+      record { few = omega arith; single = q }
 
   name-fits : (i : ℕ) (arg : List ℕ) → Fitting (nameTaken o i arg)
   unfolding nameTaken pick
-  name-fits i arg = go (leb (rowOf (o .command) .most) (o .names)) (same dash arg) (leb 1 (o .inputs)) refl where
-    go : (t s u : Bool) → leb (rowOf (o .command) .most) (o .names) ≡ t
-        → Fitting (pick t (stopped o TooMany i) (pick s (pick u (stopped o InputTwice i) (counted o 1)) (counted o (o .inputs))))
+  name-fits i arg = go (leb (rowOf (o .command) .most) (o .names .count)) (same dash arg) (leb 1 (o .inputs)) refl where
+    go : (t s u : Bool) → leb (rowOf (o .command) .most) (o .names .count) ≡ t
+        → Fitting (pick t (stopped o TooMany i) (pick s (pick u (stopped o InputTwice i) (named o i 1)) (named o i (o .inputs))))
     go true s u e = stopped-fits TooMany i
     go false true true e = stopped-fits InputTwice i
-    go false true false e = counted-fits 1 (leb-false _ _ e) (omega arith)
-    go false false u e = counted-fits (o .inputs) (leb-false _ _ e) (f .single)
+    go false true false e = named-more-fits i 1 (leb-false _ _ e) (omega arith)
+    go false false u e = named-more-fits i (o .inputs) (leb-false _ _ e) (f .single)
 
   as-fits : (i : ℕ) (a : Argument) (arg : List ℕ) → Fitting (takenAs o i a arg)
   unfolding takenAs takenPlain
@@ -84,16 +99,16 @@ all-fit o i (arg ∷ args) f = all-fit (taken o i arg) (suc i) args (taken-fits 
 
 -- ---- all arguments
 
-right-is : (u : Usage) → u ≡ Right → isRight u ≡ true
+pub right-is : (u : Usage) → u ≡ Right → isRight u ≡ true
 unfolding isRight
 right-is u e = rw e
 
-closed-right : (o : Order) → Fitting o → closed o .usage ≡ Right → Fitting (closed o) × (rowOf (closed o .command) .least ≤ closed o .names)
+closed-right : (o : Order) → Fitting o → closed o .usage ≡ Right → Fitting (closed o) × (rowOf (closed o .command) .least ≤ closed o .names .count)
 unfolding closed pick stopped isRight
-closed-right o f = go (isRight (o .usage)) (ltb (o .names) (rowOf (o .command) .least)) refl refl where
-  go : (t s : Bool) → isRight (o .usage) ≡ t → ltb (o .names) (rowOf (o .command) .least) ≡ s
+closed-right o f = go (isRight (o .usage)) (ltb (o .names .count) (rowOf (o .command) .least)) refl refl where
+  go : (t s : Bool) → isRight (o .usage) ≡ t → ltb (o .names .count) (rowOf (o .command) .least) ≡ s
       → pick t (pick s (stopped o TooFew 1) o) o .usage ≡ Right
-      → Fitting (pick t (pick s (stopped o TooFew 1) o) o) × (rowOf (pick t (pick s (stopped o TooFew 1) o) o .command) .least ≤ pick t (pick s (stopped o TooFew 1) o) o .names)
+      → Fitting (pick t (pick s (stopped o TooFew 1) o) o) × (rowOf (pick t (pick s (stopped o TooFew 1) o) o .command) .least ≤ pick t (pick s (stopped o TooFew 1) o) o .names .count)
   go true true p q e = let z : _≡_ {A = ℕ} 0 1 = cc in absurd (omega arith)
   go true false p q e = (f, ltb-false _ _ q)
   go false s p q e =
@@ -101,7 +116,7 @@ closed-right o f = go (isRight (o .usage)) (ltb (o .names) (rowOf (o .command) .
       let z : _≡_ {A = ℕ} 0 1 = cc in
       absurd (omega arith)
 
-pub ordered-right : (args : List (List ℕ)) → ordered args .usage ≡ Right → Fitting (ordered args) × (rowOf (ordered args .command) .least ≤ ordered args .names)
+pub ordered-right : (args : List (List ℕ)) → ordered args .usage ≡ Right → Fitting (ordered args) × (rowOf (ordered args .command) .least ≤ ordered args .names .count)
 unfolding ordered fresh begun
 ordered-right [] e = let z : _≡_ {A = ℕ} 0 1 = cc in absurd (omega arith)
 ordered-right (arg ∷ args) e = closed-right (takenAll (begun arg) 2 args) (all-fit (begun arg) 2 args (begun-as-fits _ arg)) e

@@ -5,23 +5,23 @@ use mathlib.Core.List.{List, [], _∷_, _++_, map, map-append}
 use Prim.Native.Nat.{ℕ, _+_, _-_, _<_, _≤_}
 use native.Mathlib.Numerals.{add-one}
 use native.Mathlib.Omega.{arith}
-use lib.ListN.{length, take, drop, getD, set, length-append, length-set}
-use lib.Seq.{take-suc, take-suc-set, drop-set-lt, take-all, getD-drop, drop-drop}
+use lib.ListN.{length, take, drop, getD, set, length-append, length-map, length-set}
+use lib.Seq.{take-suc, take-suc-set, drop-set-lt, getD-drop, drop-drop, length-take-le}
 use borrow.Author.Tests.{eq-eqb, ne-eqb, lt-ltb, le-ltb}
 use borrow.Author.Needs.{needs}
 use Rattle.base.proofs.TestLaws.{pick-true, pick-false}
 use Rattle.ascii.specs.Text.{bytesOf}
 use Rattle.ascii.specs.Words.{space, newline}
 use Rattle.ascii.specs.Laying.{Laid}
-use Rattle.ascii.proofs.LayLaws.{laid-join, laid-none}
+use Rattle.ascii.proofs.LayLaws.{laid-join, laid-nothing}
 use Rattle.orders.specs.declared.Usage.the-variants.{Right, Wished, NoCommand, NoOption, TooFew, TooMany, InputTwice}
 use Rattle.orders.specs.declared.Order.{Order}
-use Rattle.orders.specs.declared.table.Marks.{Marks}
-use Rattle.orders.specs.Table.{Row, rowOf, nameWidth}
-use Rattle.orders.specs.Rows.{Holds}
+use Rattle.menu.specs.declared.table.Marks.{Marks}
+use Rattle.menu.specs.Table.{Row, rowOf, nameWidth}
+use Rattle.menu.specs.Rows.{Holds}
 use Rattle.orders.specs.Usage.{dash}
-use Rattle.orders.specs.Said.{usageLine, usageRoom, fault, faultUsage, frontRoom, missing, misuseOf, misuseLine, misuseRoom, unshown, delete, shownByte}
-use Rattle.orders.proofs.TableSteps.{held-name, name-counted, held-usage}
+use Rattle.orders.specs.Said.{usageLine, usageRoom, fault, faultUsage, frontRoom, missing, misuseOf, misuseLine, misuseRoom, unshown, delete, shownByte, shown, firstLine}
+use Rattle.menu.proofs.TableSteps.{held-name, name-counted, held-usage}
 
 -- ---- the usage's line
 
@@ -68,11 +68,11 @@ pub ruleset saying = (lay-usage, lay-fault, lay-fault-usage, usage-fits, lay-mis
 module _ (o n arg : List ℕ) (ord : Order) (r : ℕ) where
   pub said-right : ord .usage ≡ Right → Laid o 0 (misuseLine ord arg) o 0
   unfolding misuseLine misuseOf
-  said-right e = rw e (laid-none o [] 0 (omega arith))
+  said-right e = rw e (laid-nothing o 0 (omega arith))
 
   pub said-wished : ord .usage ≡ Wished → Laid o 0 (misuseLine ord arg) o 0
   unfolding misuseLine misuseOf
-  said-wished e = rw e (laid-none o [] 0 (omega arith))
+  said-wished e = rw e (laid-nothing o 0 (omega arith))
 
   pub said-no-command : ord .usage ≡ NoCommand → Laid o 0 (fault arg (bytesOf ": no such command. bin/poolmirror help lists the commands.\n")) n r → Laid o 0 (misuseLine ord arg) n r
   unfolding misuseLine misuseOf
@@ -116,8 +116,9 @@ pub show-start : (o : List ℕ) → take 0 o ≡ map shownByte (take 0 o)
 show-start o = refl
 
 module _ (o m : List ℕ) (i : ℕ) (front : take i m ≡ map shownByte (take i o)) (back : drop i m ≡ drop i o) (size : length m ≡ length o) where
-  pub show-front : (b : ℕ) → i < length m → b ≡ shownByte (getD m i 0) → take (i + 1) (set m i b) ≡ map shownByte (take (i + 1) o)
-  show-front b p e =
+  pub show-front : (b n : ℕ) → i < n → n ≤ length o → b ≡ shownByte (getD m i 0) → take (i + 1) (set m i b) ≡ map shownByte (take (i + 1) o)
+  show-front b n l q e =
+      let p : i < length m = omega arith in
       let g : getD m i 0 ≡ getD o i 0 =
       let z : i + 0 ≡ i = omega arith in
       let f : (l : List ℕ) → getD (drop i l) 0 0 ≡ getD l i 0 = λ l. rw z at (getD-drop i l 0 0) in
@@ -128,7 +129,32 @@ module _ (o m : List ℕ) (i : ℕ) (front : take i m ≡ map shownByte (take i 
   pub show-back : (b : ℕ) → drop (i + 1) (set m i b) ≡ drop (i + 1) o
   show-back b = drop-set-lt (i + 1) m i b (omega arith) ∙ sym (drop-drop 1 i m) ∙ ap (drop 1) back ∙ drop-drop 1 i o
 
-  pub show-end : length m ≤ i → m ≡ map shownByte o
-  show-end p = sym (take-all i m p) ∙ front ∙ ap (map shownByte) (take-all i o (omega arith))
+  pub show-end : (n : ℕ) → i ≤ n → n ≤ i → n ≤ length o → Laid o 0 (map shownByte (take n o)) m n
+  show-end n p q l =
+      let e : i ≡ n = omega arith in
+      record {
+        front = rw e at front;
+        others = rw e at back;
+        stop = omega (arith, length-map (take n o) shownByte, length-take-le n o l);
+        within = omega arith;
+        size = size;
+      }
 
 pub ruleset showing = (show-start, show-front, show-back, show-end, length-set, needs)
+
+pub shown-empty : (o m : List ℕ) (n r : ℕ) → n ≡ 0 → Laid o 0 (bytesOf "\"\"") m r → Laid o 0 (shown (take n o)) m r
+unfolding shown
+shown-empty o m n r e p = rw e p
+
+pub shown-some : (o m : List ℕ) (n r : ℕ) → (n ≡ 0 → ⊥) → n ≤ length o → Laid o 0 (map shownByte (take n o)) m r → Laid o 0 (shown (take n o)) m r
+unfolding shown
+shown-some o m n r z l p = go (take n o) (length-take-le n o l) p where
+  go : (name : List ℕ) → length name ≡ n → Laid o 0 (map shownByte name) m r → Laid o 0 (shown name) m r
+  go [] e q = absurd (z (sym e))
+  go (b ∷ bs) e q = q
+
+pub lay-first : (o m n name : List ℕ) (a r : ℕ) → Laid o 0 name m a → Laid m a (bytesOf ":1") n r → Laid o 0 (firstLine name) n r
+unfolding firstLine
+lay-first o m n name a r p q = laid-join o m n _ _ 0 a r p q
+
+pub ruleset shows = (shown-empty, shown-some, lay-first, needs)

@@ -3,25 +3,26 @@
 use mathlib.Core.Path.{_≡_, refl, sym, _∙_}
 use mathlib.Core.Bool.{Bool, true, false}
 use mathlib.Core.List.{List}
-use Prim.Native.Nat.{ℕ, _<_, _≤_}
+use Prim.Native.Nat.{ℕ, _+_, _<_, _≤_}
 use lib.Dec.{leb}
-use borrow.Author.Tests.{le-leb, lt-leb, lt-ltb, le-ltb}
+use borrow.Author.Tests.{eq-eqb, ne-eqb, le-leb, lt-leb, lt-ltb, le-ltb}
 use borrow.Author.Needs.{needs}
 use Rattle.base.specs.Tests.{pick}
 use Rattle.base.proofs.TestLaws.{pick-true, pick-false}
 use Rattle.ascii.specs.Text.{bytesOf}
-use Rattle.ascii.specs.Words.{begins}
-use Rattle.orders.specs.declared.Command.{Command}
-use Rattle.orders.specs.declared.Command.the-variants.{Help}
+use Rattle.ascii.specs.Words.{begins, same}
+use Rattle.menu.specs.declared.Command.{Command}
+use Rattle.menu.specs.declared.Command.the-variants.{Help}
 use Rattle.orders.specs.declared.Argument.{Argument}
 use Rattle.orders.specs.declared.Argument.the-variants.{Name, Plain, Wish, Dashed}
 use Rattle.orders.specs.declared.Usage.{Usage}
 use Rattle.orders.specs.declared.Usage.the-variants.{Right, Wished, NoCommand, NoOption, TooFew, TooMany, InputTwice}
+use Rattle.orders.specs.declared.Names.{Names}
 use Rattle.orders.specs.declared.Order.{Order}
-use Rattle.orders.specs.declared.table.Named.{Named}
-use Rattle.orders.specs.declared.table.Named.the-variants.{Known, Unknown}
-use Rattle.orders.specs.Table.{rowOf, same, commandNamed}
-use Rattle.orders.specs.Usage.{dash, argumentOf, fresh, stopped, isRight, begunNamed, begunAs, begun, counted, nameTaken, takenPlain, takenAs, taken, closed}
+use Rattle.menu.specs.declared.table.Found.{Found}
+use Rattle.menu.specs.declared.table.Found.the-variants.{Known, Unknown}
+use Rattle.menu.specs.Table.{rowOf, commandNamed}
+use Rattle.orders.specs.Usage.{dash, argumentOf, isName, oneMore, fresh, stopped, isRight, begunNamed, begunAs, begun, named, nameTaken, takenPlain, takenAs, taken, closed}
 
 -- ---- what an argument is
 
@@ -61,16 +62,43 @@ module _ (plain : Bool) (arg : List ℕ) (np : plain ≡ false) (d : Bool) (ed :
 
 pub ruleset reading = (behind-dashes, is-plain, is-short-wish, is-long-wish, is-input, is-dashed, is-name, needs)
 
+pub name-case : (a y : Argument) (plain : Bool) (arg : List ℕ) (r : Bool) → a ≡ argumentOf plain arg → a ≡ y → r ≡ isName y → r ≡ isName (argumentOf plain arg)
+name-case a y plain arg r ea e p = rw (← ea, e) p
+
+pub ruleset naming = (name-case, needs)
+
+-- ---- one name more
+
+module _ (n : Names) (i : ℕ) where
+  pub more-first : n .count ≡ 0 → record { count = n .count + 1; first = i; second = n .second } ≡ oneMore n i
+  unfolding oneMore
+  more-first e = pick-true _ _ _ _ (eq-eqb (n .count) 0 e) refl
+
+  pub more-second : (n .count ≡ 0 → ⊥) → n .count ≡ 1 → record { count = n .count + 1; first = n .first; second = i } ≡ oneMore n i
+  unfolding oneMore
+  more-second z e = pick-false _ _ _ _ (ne-eqb (n .count) 0 z) (pick-true _ _ _ _ (eq-eqb (n .count) 1 e) refl)
+
+  pub more-later : (n .count ≡ 0 → ⊥) → (n .count ≡ 1 → ⊥) → record { count = n .count + 1; first = n .first; second = n .second } ≡ oneMore n i
+  unfolding oneMore
+  more-later z o = pick-false _ _ _ _ (ne-eqb (n .count) 0 z) (pick-false _ _ _ _ (ne-eqb (n .count) 1 o) refl)
+
+pub name-more : (o : Order) (n : Names) (i inputs : ℕ) → n ≡ oneMore (o .names) i
+    → record { command = o .command; names = n; inputs = inputs; plain = o .plain; usage = o .usage; at = o .at } ≡ named o i inputs
+unfolding named
+name-more o n i inputs e = rw e
+
+pub ruleset adding = (more-first, more-second, more-later, name-more, needs)
+
 -- ---- the first argument
 
 pub right-case : (u y : Usage) (r : Bool) → u ≡ y → r ≡ isRight y → r ≡ isRight u
 right-case u y r e p = rw e p
 
-pub begun-known : (n : Named) (c : Command) (r : Order) → n ≡ Known c → r ≡ fresh c Right 0 → r ≡ begunNamed n
+pub begun-known : (n : Found) (c : Command) (r : Order) → n ≡ Known c → r ≡ fresh c Right 0 → r ≡ begunNamed n
 unfolding begunNamed
 begun-known n c r e p = rw e p
 
-pub begun-unknown : (n : Named) (r : Order) → n ≡ Unknown → r ≡ fresh Help NoCommand 1 → r ≡ begunNamed n
+pub begun-unknown : (n : Found) (r : Order) → n ≡ Unknown → r ≡ fresh Help NoCommand 1 → r ≡ begunNamed n
 unfolding begunNamed
 begun-unknown n r e p = rw e p
 
@@ -79,7 +107,7 @@ module _ (arg : List ℕ) (a : Argument) (ea : a ≡ argumentOf false arg) (r : 
   unfolding begun begunAs
   begun-wish e p = rw (← ea, e) p
 
-  module _ (n : Named) (en : n ≡ commandNamed arg) (er : r ≡ begunNamed n) where
+  module _ (n : Found) (en : n ≡ commandNamed arg) (er : r ≡ begunNamed n) where
     pub begun-name : a ≡ Name → r ≡ begun arg
     unfolding begun begunAs
     begun-name e = rw (← ea, e, ← en) er
@@ -97,22 +125,22 @@ pub ruleset beginning = (right-case, begun-known, begun-unknown, begun-wish, beg
 -- ---- one argument more
 
 module _ (o : Order) (i : ℕ) (arg : List ℕ) (r : Order) (most : ℕ) (em : most ≡ rowOf (o .command) .most) where
-  pub name-many : most ≤ o .names → r ≡ stopped o TooMany i → r ≡ nameTaken o i arg
+  pub name-many : most ≤ o .names .count → r ≡ stopped o TooMany i → r ≡ nameTaken o i arg
   unfolding nameTaken
-  name-many p e = pick-true _ _ _ _ (rw (← em) (le-leb most (o .names) p)) e
+  name-many p e = pick-true _ _ _ _ (rw (← em) (le-leb most (o .names .count) p)) e
 
-  module _ (few : o .names < most) (t : Bool) (et : t ≡ same dash arg) where
-    counts : r ≡ pick (same dash arg) (pick (leb 1 (o .inputs)) (stopped o InputTwice i) (counted o 1)) (counted o (o .inputs)) → r ≡ nameTaken o i arg
+  module _ (few : o .names .count < most) (t : Bool) (et : t ≡ same dash arg) where
+    counts : r ≡ pick (same dash arg) (pick (leb 1 (o .inputs)) (stopped o InputTwice i) (named o i 1)) (named o i (o .inputs)) → r ≡ nameTaken o i arg
     unfolding nameTaken
-    counts e = pick-false _ _ _ _ (rw (← em) (lt-leb most (o .names) few)) e
+    counts e = pick-false _ _ _ _ (rw (← em) (lt-leb most (o .names .count) few)) e
 
     pub name-twice : t ≡ true → 1 ≤ o .inputs → r ≡ stopped o InputTwice i → r ≡ nameTaken o i arg
     name-twice p q e = counts (pick-true _ _ _ _ (sym et ∙ p) (pick-true _ _ _ _ (le-leb 1 (o .inputs) q) e))
 
-    pub name-input : t ≡ true → o .inputs < 1 → r ≡ counted o 1 → r ≡ nameTaken o i arg
+    pub name-input : t ≡ true → o .inputs < 1 → r ≡ named o i 1 → r ≡ nameTaken o i arg
     name-input p q e = counts (pick-true _ _ _ _ (sym et ∙ p) (pick-false _ _ _ _ (lt-leb 1 (o .inputs) q) e))
 
-    pub name-file : t ≡ false → r ≡ counted o (o .inputs) → r ≡ nameTaken o i arg
+    pub name-file : t ≡ false → r ≡ named o i (o .inputs) → r ≡ nameTaken o i arg
     name-file p e = counts (pick-false _ _ _ _ (sym et ∙ p) e)
 
 pub ruleset counting = (name-many, name-twice, name-input, name-file, needs)
@@ -150,12 +178,12 @@ module _ (o : Order) (t : Bool) (et : t ≡ isRight (o .usage)) where
   close-none p = pick-false _ _ _ _ (sym et ∙ p) refl
 
   module _ (right : t ≡ true) (least : ℕ) (el : least ≡ rowOf (o .command) .least) where
-    pub close-few : (r : Order) → o .names < least → r ≡ stopped o TooFew 1 → r ≡ closed o
+    pub close-few : (r : Order) → o .names .count < least → r ≡ stopped o TooFew 1 → r ≡ closed o
     unfolding closed
-    close-few r p e = pick-true _ _ _ _ (sym et ∙ right) (pick-true _ _ _ _ (rw (← el) (lt-ltb (o .names) least p)) e)
+    close-few r p e = pick-true _ _ _ _ (sym et ∙ right) (pick-true _ _ _ _ (rw (← el) (lt-ltb (o .names .count) least p)) e)
 
-    pub close-right : least ≤ o .names → o ≡ closed o
+    pub close-right : least ≤ o .names .count → o ≡ closed o
     unfolding closed
-    close-right p = pick-true _ _ _ _ (sym et ∙ right) (pick-false _ _ _ _ (rw (← el) (le-ltb (o .names) least p)) refl)
+    close-right p = pick-true _ _ _ _ (sym et ∙ right) (pick-false _ _ _ _ (rw (← el) (le-ltb (o .names .count) least p)) refl)
 
 pub ruleset closing = (take-on, take-none, close-none, close-few, close-right, needs)

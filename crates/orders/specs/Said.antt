@@ -1,14 +1,14 @@
--- What standard error is told of a wrong usage, and names shown on one line.
+-- What standard error is told of a wrong usage, and names as people are told them.
 use Prim.Native.Nat.{ℕ}
 use mathlib.Core.List.{List, [], _∷_, _++_, map}
 use lib.Dec.{eqb, ltb}
 use Rattle.base.specs.Tests.{pick}
 use Rattle.ascii.specs.Text.{bytesOf}
 use Rattle.ascii.specs.Words.{space, newline}
+use Rattle.menu.specs.Table.{Row, rowOf}
 use Rattle.orders.specs.declared.Usage.{Usage}
 use Rattle.orders.specs.declared.Usage.the-variants.{Right, Wished, NoCommand, NoOption, TooFew, TooMany, InputTwice}
 use Rattle.orders.specs.declared.Order.{Order}
-use Rattle.orders.specs.Table.{Row, rowOf}
 use Rattle.orders.specs.Usage.{dash}
 
 -- How the command is used, and room for it.
@@ -16,7 +16,7 @@ unfoldable pub usageLine : Row → List ℕ
 usageLine row = bytesOf "usage: bin/poolmirror " ++ (row .usage ++ (newline ∷ []))
 
 abbrev pub usageRoom : ℕ
-usageRoom = 45
+usageRoom = 53
 
 -- What is wrong with what; and how the command is used.
 unfoldable pub fault : (what words : List ℕ) → List ℕ
@@ -61,6 +61,18 @@ delete = 127
 unfoldable pub shownByte : ℕ → ℕ
 shownByte b = pick (ltb b space) unshown (pick (eqb b delete) unshown b)
 
--- A name as it is shown.
+-- A name as it is shown; an empty one by two quotes, so that it is seen.
 unfoldable pub shown : List ℕ → List ℕ
-shown name = map shownByte name
+shown [] = bytesOf "\"\""
+shown (b ∷ bs) = map shownByte (b ∷ bs)
+
+-- Room for the quotes.
+abbrev pub quotesRoom : ℕ
+quotesRoom = 2
+
+-- Line 1 of a file, in the form that editors jump to, and how many bytes that is more than its name.
+unfoldable pub firstLine : (name : List ℕ) → List ℕ
+firstLine name = name ++ bytesOf ":1"
+
+abbrev pub lineSize : ℕ
+lineSize = 2

@@ -2,20 +2,21 @@
 use Prim.Native.Nat.{ℕ, suc, _+_}
 use mathlib.Core.Bool.{Bool, true, false}
 use mathlib.Core.List.{List, [], _∷_}
-use lib.Dec.{leb, ltb}
+use lib.Dec.{eqb, leb, ltb}
 use Rattle.base.specs.Tests.{pick}
 use Rattle.ascii.specs.Text.{bytesOf}
-use Rattle.ascii.specs.Words.{begins}
-use Rattle.orders.specs.declared.Command.{Command}
-use Rattle.orders.specs.declared.Command.the-variants.{Help}
+use Rattle.ascii.specs.Words.{begins, same}
+use Rattle.menu.specs.declared.Command.{Command}
+use Rattle.menu.specs.declared.Command.the-variants.{Help}
+use Rattle.menu.specs.declared.table.Found.{Found}
+use Rattle.menu.specs.declared.table.Found.the-variants.{Known, Unknown}
+use Rattle.menu.specs.Table.{rowOf, commandNamed}
 use Rattle.orders.specs.declared.Argument.{Argument}
 use Rattle.orders.specs.declared.Argument.the-variants.{Name, Plain, Wish, Dashed}
 use Rattle.orders.specs.declared.Usage.{Usage}
 use Rattle.orders.specs.declared.Usage.the-variants.{Right, Wished, NoCommand, NoOption, TooFew, TooMany, InputTwice}
+use Rattle.orders.specs.declared.Names.{Names}
 use Rattle.orders.specs.declared.Order.{Order}
-use Rattle.orders.specs.declared.table.Named.{Named}
-use Rattle.orders.specs.declared.table.Named.the-variants.{Known, Unknown}
-use Rattle.orders.specs.Table.{rowOf, same, commandNamed}
 
 -- ---- what an argument is
 
@@ -33,11 +34,30 @@ argumentOf plain arg =
     (pick (same dash arg) Name
     (pick (begins dash arg) Dashed Name)))))
 
+-- The argument is a name.
+unfoldable pub isName : Argument → Bool
+isName Name = true
+isName Plain = false
+isName Wish = false
+isName Dashed = false
+
+-- ---- names
+
+unfoldable pub noNames : Names
+noNames = record { count = 0; first = 0; second = 0 }
+
+-- One name more, which is argument i. Of the first and the second it is kept which arguments they are.
+unfoldable pub oneMore : Names → (i : ℕ) → Names
+oneMore n i =
+    pick (eqb (n .count) 0) (record { count = n .count + 1; first = i; second = n .second })
+    (pick (eqb (n .count) 1) (record { count = n .count + 1; first = n .first; second = i })
+    (record { count = n .count + 1; first = n .first; second = n .second }))
+
 -- ---- what is ordered
 
 -- An order with no names; one with what was found at an argument.
 unfoldable pub fresh : Command → Usage → (at : ℕ) → Order
-fresh c u at = record { command = c; names = 0; inputs = 0; plain = false; usage = u; at = at }
+fresh c u at = record { command = c; names = noNames; inputs = 0; plain = false; usage = u; at = at }
 
 unfoldable pub stopped : Order → Usage → (at : ℕ) → Order
 stopped o u at = record { command = o .command; names = o .names; inputs = o .inputs; plain = o .plain; usage = u; at = at }
@@ -55,7 +75,7 @@ isRight InputTwice = false
 -- ---- the first argument
 
 -- The command that was looked up; an unknown one is a fault of argument 1.
-unfoldable pub begunNamed : Named → Order
+unfoldable pub begunNamed : Found → Order
 begunNamed (Known c) = fresh c Right 0
 begunNamed Unknown = fresh Help NoCommand 1
 
@@ -71,15 +91,15 @@ begun arg = begunAs (argumentOf false arg) arg
 
 -- ---- one argument more
 
--- One name more, and so many of them are standard input.
-unfoldable pub counted : Order → (inputs : ℕ) → Order
-counted o inputs = record { command = o .command; names = o .names + 1; inputs = inputs; plain = o .plain; usage = o .usage; at = o .at }
+-- The order with a name more, where so many of the names are standard input.
+unfoldable pub named : Order → (i inputs : ℕ) → Order
+named o i inputs = record { command = o .command; names = oneMore (o .names) i; inputs = inputs; plain = o .plain; usage = o .usage; at = o .at }
 
--- A name, at place i: one more than the command takes, and standard input a second time, are faults.
+-- A name, which is argument i: one more than the command takes, and standard input a second time, are faults.
 unfoldable pub nameTaken : Order → (i : ℕ) → List ℕ → Order
 nameTaken o i arg =
-    pick (leb (rowOf (o .command) .most) (o .names)) (stopped o TooMany i)
-    (pick (same dash arg) (pick (leb 1 (o .inputs)) (stopped o InputTwice i) (counted o 1)) (counted o (o .inputs)))
+    pick (leb (rowOf (o .command) .most) (o .names .count)) (stopped o TooMany i)
+    (pick (same dash arg) (pick (leb 1 (o .inputs)) (stopped o InputTwice i) (named o i 1)) (named o i (o .inputs)))
 
 -- The `--`, behind which each argument is a name.
 unfoldable pub takenPlain : Order → Order
@@ -100,9 +120,9 @@ taken o i arg = pick (isRight (o .usage)) (takenAs o i (argumentOf (o .plain) ar
 
 -- No argument more: fewer names than the command takes are a fault, told of the command.
 unfoldable pub closed : Order → Order
-closed o = pick (isRight (o .usage)) (pick (ltb (o .names) (rowOf (o .command) .least)) (stopped o TooFew 1) o) o
+closed o = pick (isRight (o .usage)) (pick (ltb (o .names .count) (rowOf (o .command) .least)) (stopped o TooFew 1) o) o
 
--- These arguments, the first of them at place i.
+-- These arguments, the first of them argument i.
 unfoldable pub takenAll : Order → (i : ℕ) → List (List ℕ) → Order
 takenAll o i [] = o
 takenAll o i (arg ∷ args) = takenAll (taken o i arg) (suc i) args

@@ -2,18 +2,20 @@
 ghost use mathlib.Core.Path.{_≡_};
 ghost use mathlib.Core.List.{[]};
 ghost use Prim.Native.Nat.{_<_};
-ghost use Rattle.orders.specs.Table.{rowOf, anyNumber, same};
-ghost use Rattle.orders.specs.Usage.{argumentOf, fresh, stopped, isRight, begunNamed, begun, counted, nameTaken, takenPlain, takenAs, taken, closed, dash, ordered};
+ghost use Rattle.ascii.specs.Words.{same};
+ghost use Rattle.menu.specs.Table.{rowOf, anyNumber};
+ghost use Rattle.orders.specs.Usage.{argumentOf, isName, oneMore, fresh, stopped, isRight, begunNamed, begun, named, nameTaken, takenPlain, takenAs, taken, closed, dash, ordered};
 use crate::Argument;
-use crate::Command;
+use crate::Names;
 use crate::Order;
 use crate::Usage;
-use crate::table::Named;
-use crate::table::ROW_ROOM;
-use crate::table::find_command;
-use crate::table::put_row;
-use crate::table::same;
 use ascii::begins;
+use ascii::same;
+use menu::Command;
+use menu::Found;
+use menu::ROW_ROOM;
+use menu::find_command;
+use menu::put_row;
 
 // How many names the command takes at least, and at most.
 fn least(c: Command) -> usize
@@ -33,7 +35,7 @@ fn most(c: Command) -> usize
 }
 
 // What the argument is. Behind `--` each is a name.
-pub fn argument_of(plain: bool, arg: &[u8]) -> Argument
+fn argument_of(plain: bool, arg: &[u8]) -> Argument
     ensures { λ r. ⌜ r ≡ argumentOf plain (now (arg .entry)) ⌝ }
 {
     if plain {
@@ -57,13 +59,56 @@ pub fn argument_of(plain: bool, arg: &[u8]) -> Argument
     Argument::Name
 }
 
+// Whether it is a name, behind what was ordered so far.
+pub fn is_name(o: Order, arg: &[u8]) -> bool
+    ensures { λ r. ⌜ r ≡ isName (argumentOf (o .plain) (now (arg .entry))) ⌝ }
+{
+    match argument_of(o.plain, arg) {
+        Argument::Name => true,
+        Argument::Plain => false,
+        Argument::Wish => false,
+        Argument::Dashed => false,
+    }
+}
+
+// One name more, which is argument i.
+fn one_more(n: Names, i: usize) -> Names
+    requires { ⌜ n .count < anyNumber ⌝ }
+    ensures { λ r. ⌜ r ≡ oneMore n i ⌝ }
+{
+    if n.count == 0 {
+        return Names {
+            count: n.count + 1,
+            first: i,
+            second: n.second,
+        };
+    }
+    if n.count == 1 {
+        return Names {
+            count: n.count + 1,
+            first: n.first,
+            second: i,
+        };
+    }
+    Names {
+        count: n.count + 1,
+        first: n.first,
+        second: n.second,
+    }
+}
+
 // An order with no names.
 fn fresh(c: Command, u: Usage, at: usize) -> Order
     ensures { λ r. ⌜ r ≡ fresh c u at ⌝ }
 {
+    let n = Names {
+        count: 0,
+        first: 0,
+        second: 0,
+    };
     Order {
         command: c,
-        names: 0,
+        names: n,
         inputs: 0,
         plain: false,
         usage: u,
@@ -76,9 +121,10 @@ fn stopped(o: Order, u: Usage, at: usize) -> Order
     ensures { λ r. ⌜ r ≡ stopped o u at ⌝ }
 {
     let c = o.command;
+    let n = o.names;
     Order {
         command: c,
-        names: o.names,
+        names: n,
         inputs: o.inputs,
         plain: o.plain,
         usage: u,
@@ -102,12 +148,12 @@ fn is_right(u: Usage) -> bool
 }
 
 // What the first argument orders, where it is no wish.
-fn begin_named(n: Named) -> Order
+fn begin_named(n: Found) -> Order
     ensures { λ r. ⌜ r ≡ begunNamed n ⌝ }
 {
     match n {
-        Named::Known(c) => fresh(c, Usage::Right, 0),
-        Named::Unknown => fresh(Command::Help, Usage::NoCommand, 1),
+        Found::Known(c) => fresh(c, Usage::Right, 0),
+        Found::Unknown => fresh(Command::Help, Usage::NoCommand, 1),
     }
 }
 
@@ -130,16 +176,17 @@ pub fn begin(arg: &[u8]) -> Order
     }
 }
 
-// The order with one name more.
-fn count_name(o: Order, inputs: usize) -> Order
-    requires { ⌜ o .names < anyNumber ⌝ }
-    ensures { λ r. ⌜ r ≡ counted o inputs ⌝ }
+// The order with a name more, where so many of the names are standard input.
+fn named(o: Order, i: usize, inputs: usize) -> Order
+    requires { ⌜ o .names .count < anyNumber ⌝ }
+    ensures { λ r. ⌜ r ≡ named o i inputs ⌝ }
 {
     let c = o.command;
+    let n = one_more(o.names, i);
     let u = o.usage;
     Order {
         command: c,
-        names: o.names + 1,
+        names: n,
         inputs: inputs,
         plain: o.plain,
         usage: u,
@@ -152,16 +199,17 @@ fn take_name(o: Order, i: usize, arg: &[u8]) -> Order
     ensures { λ r. ⌜ r ≡ nameTaken o i (now (arg .entry)) ⌝ }
 {
     let c = o.command;
-    if most(c) <= o.names {
+    let n = o.names;
+    if most(c) <= n.count {
         return stopped(o, Usage::TooMany, i);
     }
     if same(b"-", arg) {
         if 1 <= o.inputs {
             return stopped(o, Usage::InputTwice, i);
         }
-        return count_name(o, 1);
+        return named(o, i, 1);
     }
-    count_name(o, o.inputs)
+    named(o, i, o.inputs)
 }
 
 // The order, where each argument from here on is a name.
@@ -169,10 +217,11 @@ fn pass_dashes(o: Order) -> Order
     ensures { λ r. ⌜ r ≡ takenPlain o ⌝ }
 {
     let c = o.command;
+    let n = o.names;
     let u = o.usage;
     Order {
         command: c,
-        names: o.names,
+        names: n,
         inputs: o.inputs,
         plain: true,
         usage: u,
@@ -209,8 +258,9 @@ pub fn close(o: Order) -> Order
 {
     let u = o.usage;
     let c = o.command;
+    let n = o.names;
     if is_right(u) {
-        if o.names < least(c) {
+        if n.count < least(c) {
             return stopped(o, Usage::TooFew, 1);
         }
         return o;

@@ -1,28 +1,20 @@
 // What `bin/poolmirror COMMAND ARGS` decides from its arguments, and what it tells of them, on lent bytes.
-pub use arguments::argument_of;
 pub use arguments::begin;
 pub use arguments::close;
 pub use arguments::is_input;
+pub use arguments::is_name;
 pub use arguments::nothing;
 pub use arguments::take;
 pub use ending::ending_of;
 pub use ending::printed_ending;
-pub use listing::help_text;
+use menu::Command;
 pub use said::misuse_line;
+pub use said::put_first_line;
 pub use said::show;
 
 mod arguments;
 mod ending;
-mod listing;
 mod said;
-mod table;
-
-pub enum Command {
-    Check,
-    Play,
-    Replies,
-    Help,
-}
 
 // What an argument is: a name, the `--` behind which all are names, a wish for help, or an option that there is none of.
 pub enum Argument {
@@ -43,10 +35,17 @@ pub enum Usage {
     InputTwice,
 }
 
-// What is ordered so far: how many names, how many of them standard input, whether `--` was passed; `at` is the argument at fault.
+// The names so far: how many, and which arguments the first two are, 0 where there is none.
+pub struct Names {
+    pub count: usize,
+    pub first: usize,
+    pub second: usize,
+}
+
+// What is ordered so far: the command, its names, how many of them are standard input, and whether `--` was passed; `at` is the argument at fault.
 pub struct Order {
     pub command: Command,
-    pub names: usize,
+    pub names: Names,
     pub inputs: usize,
     pub plain: bool,
     pub usage: Usage,

@@ -1,19 +1,19 @@
-// What standard error is told of a wrong usage, and names shown on one line.
+// What standard error is told of a wrong usage, and names as people are told them.
 ghost use mathlib.Core.Path.{_≡_};
 ghost use mathlib.Core.List.{map};
 ghost use Prim.Native.Nat.{_+_, _≤_};
-ghost use lib.ListN.{length};
+ghost use lib.ListN.{length, take};
 ghost use Rattle.ascii.specs.Laying.{Laid};
-ghost use Rattle.orders.specs.Table.{rowOf};
-ghost use Rattle.orders.specs.Said.{usageLine, usageRoom, frontRoom, fault, faultUsage, misuseLine, misuseRoom, missing, shownByte};
-use crate::Command;
+ghost use Rattle.menu.specs.Table.{rowOf};
+ghost use Rattle.orders.specs.Said.{usageLine, usageRoom, frontRoom, fault, faultUsage, misuseLine, misuseRoom, missing, shownByte, shown, quotesRoom, firstLine, lineSize};
 use crate::Order;
 use crate::Usage;
-use crate::table::ROW_ROOM;
-use crate::table::put_row;
 use ascii::NEWLINE;
 use ascii::put_byte;
 use ascii::put_bytes;
+use menu::Command;
+use menu::ROW_ROOM;
+use menu::put_row;
 
 // What is shown in place of a byte that is not.
 const UNSHOWN: u8 = b'?';
@@ -100,7 +100,7 @@ pub fn misuse_line(out: &mut [u8], o: Order, arg: &[u8]) -> usize
 }
 
 // The byte as it is shown.
-fn shown(b: u8) -> u8
+fn shown_byte(b: u8) -> u8
     ensures { λ r. ⌜ r ≡ shownByte b ⌝ }
 {
     if b < FIRST_SHOWN {
@@ -112,14 +112,36 @@ fn shown(b: u8) -> u8
     b
 }
 
-// The name in place as it is shown: on one line, whatever its bytes.
-pub fn show(name: &mut [u8])
-    ensures { λ _. ⌜ now (name .exit) ≡ map shownByte (now (name .entry)) ⌝ }
+// The first n bytes in place as they are shown.
+fn show_bytes(name: &mut [u8], n: usize) -> usize
+    requires { ⌜ n ≤ length (now name) ⌝ }
+    ensures { λ r. ⌜ Laid (now (name .entry)) 0 (map shownByte (take n (now (name .entry)))) (now (name .exit)) r ⌝ }
 {
     let mut i = 0;
-    while i < name.len() {
+    while i < n {
         let b = name[i];
-        name[i] = shown(b);
+        name[i] = shown_byte(b);
         i += 1;
     }
+    n
+}
+
+// The name that the first n bytes are, in place as it is shown: on one line, whatever its bytes. Answers its length.
+pub fn show(name: &mut [u8], n: usize) -> usize
+    requires { ⌜ (n ≤ length (now name)) × (quotesRoom ≤ length (now name)) ⌝ }
+    ensures { λ r. ⌜ Laid (now (name .entry)) 0 (shown (take n (now (name .entry)))) (now (name .exit)) r ⌝ }
+{
+    if n == 0 {
+        return put_bytes(name, 0, b"\"\"");
+    }
+    show_bytes(name, n)
+}
+
+// What line 1 of a file is called, from the front of `out`. Answers its length.
+pub fn put_first_line(out: &mut [u8], name: &[u8]) -> usize
+    requires { ⌜ length (now name) + lineSize ≤ length (now out) ⌝ }
+    ensures { λ r. ⌜ Laid (now (out .entry)) 0 (firstLine (now (name .entry))) (now (out .exit)) r ⌝ }
+{
+    let at = put_bytes(out, 0, name);
+    put_bytes(out, at, b":1")
 }

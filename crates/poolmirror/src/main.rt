@@ -6,8 +6,7 @@ use checking::Came;
 use checking::Tally;
 use disk::FileRead;
 use libc::PATH_MAX;
-use orders::Argument;
-use orders::Command;
+use menu::Command;
 use orders::Order;
 use orders::Usage;
 use playing::OUTPUT_ROOM;
@@ -75,66 +74,63 @@ fn read_named(name: &[u8], file: &mut [u8]) -> FileRead
     disk::read_file(name, file)
 }
 
-// The name in place as it is shown, and how many bytes that has: an empty one is shown as `""`.
-fn show_name(name: &mut [u8], n: usize) -> usize
-    requires { ⌜ (n ≤ length (now name)) × (2 ≤ length (now name)) ⌝ }
-    ensures { λ r. ⌜ r ≤ length (now (name .exit)) ⌝ }
-{
-    if n == 0 {
-        return ascii::put_bytes(name, 0, b"\"\"");
-    }
-    let from = 0;
-    orders::show(&mut name[from..n]);
-    n
-}
-
 // ---- check
 
-// What has come of the files so far, whether `--` was passed, and whether a line could not be written.
+// What has come of the files so far, the order as far as it was gone through again, and whether a line could not be written.
 struct Run {
     tally: Tally,
-    plain: bool,
+    order: Order,
     failed: bool,
 }
 
-fn check_named(arg: &mut [u8], n: usize, file: &mut [u8], out: &mut [u8], s: Run) -> Run
+// The line of a name.
+fn check_name(arg: &mut [u8], n: usize, file: &mut [u8], out: &mut [u8], t: Tally, o: Order) -> Run
     requires { ⌜ (n ≤ length (now arg)) × (length (now arg) ≡ 4096) × (8192 ≤ length (now out)) ⌝ }
 {
     let from = 0;
     let read = read_named(&arg[from..n], file);
-    let shown = show_name(arg, n);
+    let shown = orders::show(arg, n);
     let size = read.count;
     let a = checking::account_line(out, &arg[from..shown], read.error, &file[from..size]);
     let came = a.came;
-    let tally = s.tally;
     Run {
-        tally: checking::count_file(tally, came),
-        plain: s.plain,
+        tally: checking::count_file(t, came),
+        order: o,
         failed: !streams::print(out, a.count),
     }
 }
 
-fn pass_dashes(s: Run) -> Run {
-    let tally = s.tally;
+// What is no name is passed.
+fn check_if(
+    named: bool,
+    arg: &mut [u8],
+    n: usize,
+    file: &mut [u8],
+    out: &mut [u8],
+    t: Tally,
+    o: Order,
+) -> Run
+    requires { ⌜ (n ≤ length (now arg)) × (length (now arg) ≡ 4096) × (8192 ≤ length (now out)) ⌝ }
+{
+    if named {
+        return check_name(arg, n, file, out, t, o);
+    }
     Run {
-        tally,
-        plain: true,
-        failed: s.failed,
+        tally: t,
+        order: o,
+        failed: false,
     }
 }
 
-// One argument more: a name is checked.
+// One argument more.
 fn check_argument(i: usize, arg: &mut [u8], file: &mut [u8], out: &mut [u8], s: Run) -> Run
     requires { ⌜ (length (now arg) ≡ 4096) × (8192 ≤ length (now out)) ⌝ }
 {
     let n = read_argument(i, arg);
     let from = 0;
-    match orders::argument_of(s.plain, &arg[from..n]) {
-        Argument::Name => check_named(arg, n, file, out, s),
-        Argument::Plain => pass_dashes(s),
-        Argument::Wish => s,
-        Argument::Dashed => s,
-    }
+    let named = orders::is_name(s.order, &arg[from..n]);
+    let order = orders::take(s.order, i, &arg[from..n]);
+    check_if(named, arg, n, file, out, s.tally, order)
 }
 
 // The line of each name, in order.
@@ -142,9 +138,10 @@ fn check_names(arg: &mut [u8], file: &mut [u8], out: &mut [u8]) -> Run
     requires { ⌜ (length (now arg) ≡ 4096) × (8192 ≤ length (now out)) ⌝ }
 {
     let count = os::arg_count();
+    let order = begin_order(arg);
     let mut s = Run {
         tally: checking::no_files(),
-        plain: false,
+        order,
         failed: false,
     };
     let mut i = FIRST_NAME;
@@ -182,74 +179,6 @@ fn check(arg: &mut [u8], file: &mut [u8], out: &mut [u8]) -> Ending
 
 // ---- play
 
-// A search among the arguments: how many names are to be passed before the one that is looked for, and whether `--` was passed.
-struct Search {
-    left: usize,
-    plain: bool,
-}
-
-fn is_name(a: Argument) -> bool {
-    match a {
-        Argument::Name => true,
-        Argument::Plain => false,
-        Argument::Wish => false,
-        Argument::Dashed => false,
-    }
-}
-
-// Whether the argument is the name that is looked for.
-fn is_found(a: Argument, s: Search) -> bool {
-    if 0 < s.left {
-        return false;
-    }
-    is_name(a)
-}
-
-fn pass_name(s: Search) -> Search {
-    if s.left < 1 {
-        return s;
-    }
-    Search {
-        left: s.left - 1,
-        plain: s.plain,
-    }
-}
-
-fn pass_argument(a: Argument, s: Search) -> Search {
-    match a {
-        Argument::Name => pass_name(s),
-        Argument::Plain => Search {
-            left: s.left,
-            plain: true,
-        },
-        Argument::Wish => s,
-        Argument::Dashed => s,
-    }
-}
-
-// Finds the name at a place among the names: how many bytes it has.
-fn find_name(place: usize, arg: &mut [u8]) -> usize
-    ensures { λ r. ⌜ r ≤ length (now (arg .exit)) ⌝ }
-{
-    let count = os::arg_count();
-    let from = 0;
-    let mut s = Search {
-        left: place,
-        plain: false,
-    };
-    let mut i = FIRST_NAME;
-    while i < count {
-        let n = read_argument(i, arg);
-        let a = orders::argument_of(s.plain, &arg[from..n]);
-        if is_found(a, s) {
-            return n;
-        }
-        s = pass_argument(a, s);
-        i += 1;
-    }
-    0
-}
-
 fn say_unread(out: &mut [u8], name: &[u8], error: i32) -> Ending
     requires { ⌜ (length (now name) ≤ 4096) × (8192 ≤ length (now out)) ⌝ }
 {
@@ -266,22 +195,13 @@ fn open_commands(name: &[u8]) -> i32 {
     os::open_read(name)
 }
 
-// What line 1 of the commands is called: `commands:1`.
-fn put_first(out: &mut [u8], list: &[u8]) -> usize
-    requires { ⌜ (length (now list) ≤ 4096) × (8192 ≤ length (now out)) ⌝ }
-    ensures { λ r. ⌜ r ≤ length (now (out .exit)) ⌝ }
-{
-    let at = ascii::put_bytes(out, 0, list);
-    ascii::put_bytes(out, at, b":1")
-}
-
 fn perform(file: &[u8], score: &[u8], list: &[u8], input: i32, first: &mut [u8]) -> Ending
     requires { ⌜ (length (now list) ≤ 4096) × (8192 ≤ length (now first)) ⌝ }
 {
     let mut mem = [0u64; MEMORY_SIZE];
     let mut room = [0u64; ROOM_SIZE];
     let mut out = [0u8; OUTPUT_ROOM];
-    let n = put_first(first, list);
+    let n = orders::put_first_line(first, list);
     let from = 0;
     performance::perform(
         file,
@@ -308,7 +228,7 @@ fn play_score(
 {
     let from = 0;
     let read = read_named(&score[from..n], file);
-    let named = show_name(score, n);
+    let named = orders::show(score, n);
     if read.error != 0 {
         return say_unread(out, &score[from..named], read.error);
     }
@@ -316,16 +236,17 @@ fn play_score(
     perform(&file[from..size], &score[from..named], list, input, out)
 }
 
-// The commands are opened before the score is read, so that nothing is played where one of them can't be.
-fn play(score: &mut [u8], list: &mut [u8], file: &mut [u8], out: &mut [u8]) -> Ending
+// `play FILE COMMANDS`: the first name is the score's, the second the commands'. These are opened before the score is read, so that nothing is played where one of them can't be.
+fn play(o: Order, score: &mut [u8], list: &mut [u8], file: &mut [u8], out: &mut [u8]) -> Ending
     requires { ⌜ (length (now score) ≡ 4096) × (length (now list) ≡ 4096) × (8192 ≤ length (now out)) ⌝ }
 {
     let from = 0;
-    let n = find_name(0, score);
-    let m = find_name(1, list);
+    let names = o.names;
+    let n = read_argument(names.first, score);
+    let m = read_argument(names.second, list);
     let input = open_commands(&list[from..m]);
     let error = os::errno();
-    let listed = show_name(list, m);
+    let listed = orders::show(list, m);
     if input < 0 {
         return say_unread(out, &list[from..listed], error);
     }
@@ -337,7 +258,7 @@ fn play(score: &mut [u8], list: &mut [u8], file: &mut [u8], out: &mut [u8]) -> E
 fn help(out: &mut [u8]) -> Ending
     requires { ⌜ 8192 ≤ length (now out) ⌝ }
 {
-    let n = orders::help_text(out);
+    let n = menu::help_text(out);
     orders::printed_ending(streams::print(out, n))
 }
 
@@ -354,7 +275,7 @@ fn misused(o: Order, arg: &mut [u8], out: &mut [u8]) -> Ending
 {
     let from = 0;
     let n = read_argument(o.at, arg);
-    let shown = show_name(arg, n);
+    let shown = orders::show(arg, n);
     let m = orders::misuse_line(out, o, &arg[from..shown]);
     streams::say_first(out, m);
     let u = o.usage;
@@ -363,14 +284,15 @@ fn misused(o: Order, arg: &mut [u8], out: &mut [u8]) -> Ending
 
 // ---- the program
 
-fn carry_out(c: Command, arg: &mut [u8], out: &mut [u8]) -> Ending
+fn carry_out(o: Order, arg: &mut [u8], out: &mut [u8]) -> Ending
     requires { ⌜ (length (now arg) ≡ 4096) × (8192 ≤ length (now out)) ⌝ }
 {
     let mut list = [0u8; PATH_MAX];
     let mut file = [0u8; FILE_ROOM];
+    let c = o.command;
     match c {
         Command::Check => check(arg, &mut file, out),
-        Command::Play => play(arg, &mut list, &mut file, out),
+        Command::Play => play(o, arg, &mut list, &mut file, out),
         Command::Replies => replies(out),
         Command::Help => help(out),
     }
@@ -380,9 +302,8 @@ fn obey(o: Order, arg: &mut [u8], out: &mut [u8]) -> Ending
     requires { ⌜ (length (now arg) ≡ 4096) × (8192 ≤ length (now out)) ⌝ }
 {
     let u = o.usage;
-    let c = o.command;
     match u {
-        Usage::Right => carry_out(c, arg, out),
+        Usage::Right => carry_out(o, arg, out),
         Usage::Wished => help(out),
         Usage::NoCommand => misused(o, arg, out),
         Usage::NoOption => misused(o, arg, out),

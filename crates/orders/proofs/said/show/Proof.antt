@@ -1,32 +1,17 @@
--- The invariant: the bytes passed are as they are shown, and the others as they were.
+-- An empty name has its own form, any other is shown byte by byte.
 -- Assumes nothing.
-use mathlib.Core.Path.{_≡_}
-use mathlib.Core.List.{map}
-use Prim.Native.Nat.{_-_, _≤_}
-use lib.ListN.{length, take, drop}
-use Rattle.orders.specs.Said.{shownByte}
-use Rattle.orders.proofs.SaidSteps.{showing}
+use Rattle.orders.proofs.SaidSteps.{shows}
 use Rattle.orders.proofs.said.show.Statement.{statement}
 use Rattle.orders.proofs.said.show.Tie as tie
-
-abbrev Inv-loop : tie.InvT-loop
-Inv-loop name₀ i₀ name i = (i ≤ length name₀) × (length name ≡ length name₀) × (take i name ≡ map shownByte (take i name₀)) × (drop i name ≡ drop i name₀)
-
-abbrev μ-loop : tie.MeasureT-loop
-μ-loop name₀ i₀ name i = length name₀ - i
 
 pub show-spec : {M : Type 1} → statement M
 show-spec =
     tie.close
     (tie.spec
-    Inv-loop
-    μ-loop
-    (λ c. search showing)
-    (λ c. search showing)
-    (λ c κs. search showing)
-    (λ c. search showing)
-    (λ c. search showing)
-    (λ c. search showing)
-    (λ c. search showing)
-    (λ c. search showing)
-    (λ c. search showing))
+    (λ c. search shows)
+    (λ c κs. search shows)
+    (λ c. search shows)
+    (λ c. search shows)
+    (λ c κs. search shows)
+    (λ c. search shows)
+    (λ c. search shows))

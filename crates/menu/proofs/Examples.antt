@@ -1,0 +1,19 @@
+-- The whole of what `help` prints, worked out by the definitions.
+-- Assumes nothing.
+use mathlib.Core.Path.{_≡_, refl}
+use mathlib.Core.List.{_++_}
+use Rattle.ascii.specs.Text.{bytesOf}
+use Rattle.menu.specs.Table.{rowOf, commands}
+use Rattle.menu.specs.Help.{spaces, padded, commandLine, commandLines, helpHead, helpEnd, helpText}
+
+pub help-told : helpText
+    ≡ bytesOf "usage: bin/poolmirror COMMAND ARGS\n\n"
+    ++ (bytesOf "  check FILE ..                 says of each file what is in it, or why it is refused\n"
+    ++ (bytesOf "  play FILE COMMANDS            plays a score by commands, and prints what the electronics are sent\n"
+    ++ (bytesOf "  replies                       lists the reply numbers with their words\n"
+    ++ (bytesOf "  help                          lists the commands\n\n"
+    ++ (bytesOf "A name of a file may be - for standard input. Before a name that begins with a dash write --\n"
+    ++ (bytesOf "Status: 0 done, 1 refused, 2 wrong usage, or something can't be read or written\n"
+    ++ bytesOf "docs/POOLMIRROR.md says more.\n"))))))
+unfolding rowOf commands spaces padded commandLine commandLines helpHead helpEnd helpText
+help-told = refl

@@ -1,0 +1,131 @@
+// The table of commands: a row for each, the order in which they are listed, and looking one up by its name.
+ghost use mathlib.Core.Path.{_≡_};
+ghost use mathlib.Core.List.{_∷_};
+ghost use Prim.Native.Nat.{_+_, _≤_, _<_};
+ghost use lib.ListN.{length, drop};
+ghost use Rattle.ascii.specs.Words.{same};
+ghost use Rattle.menu.specs.Table.{rowOf, commands, count, usageWidth, helpWidth, nameWidth, rowRoom, commandNamed};
+ghost use Rattle.menu.specs.Rows.{Holds, rowWith};
+use crate::Command;
+use ascii::put_bytes;
+use ascii::same;
+
+// Room for the texts of any row.
+pub const ROW_ROOM: usize = 136;
+
+// How many commands there are.
+pub const COUNT: usize = 4;
+
+// As many names as there may be.
+const ANY_NUMBER: usize = 18446744073709551615;
+
+// A row whose texts stand in lent bytes one behind the other: where each ends, and how many names the command takes.
+pub struct Marks {
+    pub name: usize,
+    pub usage: usize,
+    pub help: usize,
+    pub least: usize,
+    pub most: usize,
+}
+
+// The command that a name is the name of.
+pub enum Found {
+    Known(Command),
+    Unknown,
+}
+
+// The row of these texts and numbers.
+fn lay_row(
+    out: &mut [u8],
+    name: &[u8],
+    usage: &[u8],
+    help: &[u8],
+    least: usize,
+    most: usize,
+) -> Marks
+    requires { ⌜ (rowRoom ≤ length (now out)) × (length (now name) ≤ nameWidth) × (length (now usage) < usageWidth) × (length (now help) ≤ helpWidth) ⌝ }
+    ensures { λ r. ⌜ Holds (now (out .entry)) (rowWith (now (name .entry)) (now (usage .entry)) (now (help .entry)) least most) (now (out .exit)) r ⌝ }
+{
+    let named = put_bytes(out, 0, name);
+    let used = put_bytes(out, named, usage);
+    let helped = put_bytes(out, used, help);
+    Marks {
+        name: named,
+        usage: used,
+        help: helped,
+        least: least,
+        most: most,
+    }
+}
+
+// A command's row.
+pub fn put_row(out: &mut [u8], c: Command) -> Marks
+    requires { ⌜ rowRoom ≤ length (now out) ⌝ }
+    ensures { λ r. ⌜ Holds (now (out .entry)) (rowOf c) (now (out .exit)) r ⌝ }
+{
+    match c {
+        Command::Check => lay_row(
+            out,
+            b"check",
+            b"check FILE ..",
+            b"says of each file what is in it, or why it is refused",
+            1,
+            ANY_NUMBER,
+        ),
+        Command::Play => lay_row(
+            out,
+            b"play",
+            b"play FILE COMMANDS",
+            b"plays a score by commands, and prints what the electronics are sent",
+            2,
+            2,
+        ),
+        Command::Replies => lay_row(
+            out,
+            b"replies",
+            b"replies",
+            b"lists the reply numbers with their words",
+            0,
+            0,
+        ),
+        Command::Help => lay_row(out, b"help", b"help", b"lists the commands", 0, 0),
+    }
+}
+
+// The command at a place of the list.
+pub fn command_at(i: usize) -> Command
+    requires { ⌜ i < count ⌝ }
+    ensures { λ r. ⌜ drop i commands ≡ r ∷ drop (i + 1) commands ⌝ }
+{
+    match i {
+        0 => Command::Check,
+        1 => Command::Play,
+        2 => Command::Replies,
+        _ => Command::Help,
+    }
+}
+
+// Whether the bytes are the command's name.
+fn is_name(c: Command, bytes: &[u8]) -> bool
+    ensures { λ r. ⌜ r ≡ same (rowOf c .name) (now (bytes .entry)) ⌝ }
+{
+    let mut text = [0; ROW_ROOM];
+    let row = put_row(&mut text, c);
+    let n = row.name;
+    same(&text[..n], bytes)
+}
+
+// The command whose name the bytes are.
+pub fn find_command(bytes: &[u8]) -> Found
+    ensures { λ r. ⌜ r ≡ commandNamed (now (bytes .entry)) ⌝ }
+{
+    let mut i = 0;
+    while i < COUNT {
+        let c = command_at(i);
+        if is_name(c, bytes) {
+            return Found::Known(c);
+        }
+        i += 1;
+    }
+    Found::Unknown
+}
