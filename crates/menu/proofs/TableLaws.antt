@@ -11,7 +11,7 @@ use Rattle.ascii.specs.Words.{begins, same}
 use Rattle.ascii.proofs.WordLaws.{same-bytes}
 use Rattle.menu.specs.declared.Command.{Command}
 use Rattle.menu.specs.declared.Command.the-variants.{Check, Play, Replies, Help}
-use Rattle.menu.specs.declared.table.Found.the-variants.{Known}
+use Rattle.menu.specs.declared.table.Lookup.the-variants.{Known}
 use Rattle.menu.specs.Table.{rowOf, commands, count, usageWidth, namedIn, commandNamed}
 
 -- ---- listed, each under its own name

@@ -15,8 +15,8 @@ use Rattle.ascii.proofs.LayLaws.{laid-join}
 use Rattle.menu.specs.declared.Command.{Command}
 use Rattle.menu.specs.declared.Command.the-variants.{Check, Play, Replies, Help}
 use Rattle.menu.specs.declared.table.Marks.{Marks}
-use Rattle.menu.specs.declared.table.Found.{Found}
-use Rattle.menu.specs.declared.table.Found.the-variants.{Known, Unknown}
+use Rattle.menu.specs.declared.table.Lookup.{Lookup}
+use Rattle.menu.specs.declared.table.Lookup.the-variants.{Known, Unknown}
 use Rattle.menu.specs.Table.{Row, rowOf, commands, count, nameWidth, usageWidth, helpWidth, namedIn, commandNamed}
 use Rattle.menu.specs.Rows.{Holds, rowWith}
 
@@ -111,7 +111,7 @@ pub look-start : (bytes : List ℕ) → namedIn (drop 0 commands) bytes ≡ comm
 unfolding commandNamed
 look-start bytes = refl
 
-module _ (bytes : List ℕ) (i : ℕ) (W : Found) (inv : namedIn (drop i commands) bytes ≡ W) where
+module _ (bytes : List ℕ) (i : ℕ) (W : Lookup) (inv : namedIn (drop i commands) bytes ≡ W) where
   pub look-end : count ≤ i → Unknown ≡ W
   unfolding namedIn commands
   look-end p = rw (drop-of-length-le commands p) at inv

@@ -6,8 +6,8 @@ use Rattle.ascii.specs.Text.{bytesOf}
 use Rattle.ascii.specs.Words.{same}
 use Rattle.menu.specs.declared.Command.{Command}
 use Rattle.menu.specs.declared.Command.the-variants.{Check, Play, Replies, Help}
-use Rattle.menu.specs.declared.table.Found.{Found}
-use Rattle.menu.specs.declared.table.Found.the-variants.{Known, Unknown}
+use Rattle.menu.specs.declared.table.Lookup.{Lookup}
+use Rattle.menu.specs.declared.table.Lookup.the-variants.{Known, Unknown}
 
 -- A command's name, how it is used, what it is for, and how many names it takes.
 pub record Row : Type 0 where
@@ -63,9 +63,9 @@ abbrev pub rowRoom : ℕ
 rowRoom = 136
 
 -- The command of these whose name the bytes are, or none.
-unfoldable pub namedIn : List Command → List ℕ → Found
+unfoldable pub namedIn : List Command → List ℕ → Lookup
 namedIn [] bytes = Unknown
 namedIn (c ∷ cs) bytes = pick (same (rowOf c .name) bytes) (Known c) (namedIn cs bytes)
 
-unfoldable pub commandNamed : List ℕ → Found
+unfoldable pub commandNamed : List ℕ → Lookup
 commandNamed bytes = namedIn commands bytes

@@ -1,6 +1,6 @@
 // The commands of `bin/poolmirror`: a row for each, what `help` prints of them, and looking one up by its name.
 pub use listing::help_text;
-pub use table::Found;
+pub use table::Lookup;
 pub use table::Marks;
 pub use table::ROW_ROOM;
 pub use table::find_command;

@@ -29,7 +29,7 @@ pub struct Marks {
 }
 
 // The command that a name is the name of.
-pub enum Found {
+pub enum Lookup {
     Known(Command),
     Unknown,
 }
@@ -116,16 +116,16 @@ fn is_name(c: Command, bytes: &[u8]) -> bool
 }
 
 // The command whose name the bytes are.
-pub fn find_command(bytes: &[u8]) -> Found
+pub fn find_command(bytes: &[u8]) -> Lookup
     ensures { λ r. ⌜ r ≡ commandNamed (now (bytes .entry)) ⌝ }
 {
     let mut i = 0;
     while i < COUNT {
         let c = command_at(i);
         if is_name(c, bytes) {
-            return Found::Known(c);
+            return Lookup::Known(c);
         }
         i += 1;
     }
-    Found::Unknown
+    Lookup::Unknown
 }

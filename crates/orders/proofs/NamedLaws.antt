@@ -10,8 +10,8 @@ use lib.ListN.{length, getD}
 use borrow.Author.Tests.{ne-eqb}
 use Rattle.base.specs.Tests.{pick}
 use Rattle.ascii.specs.Words.{same}
-use Rattle.menu.specs.declared.table.Found.{Found}
-use Rattle.menu.specs.declared.table.Found.the-variants.{Known, Unknown}
+use Rattle.menu.specs.declared.table.Lookup.{Lookup}
+use Rattle.menu.specs.declared.table.Lookup.the-variants.{Known, Unknown}
 use Rattle.menu.specs.Table.{rowOf, commandNamed}
 use Rattle.orders.specs.declared.Argument.{Argument}
 use Rattle.orders.specs.declared.Argument.the-variants.{Name, Plain, Wish, Dashed}
@@ -129,7 +129,7 @@ placed (i ∷ j ∷ l) =
 
 -- ---- all arguments
 
-named-fresh : (n : Found) → (begunNamed n .names ≡ noNames) × (begunNamed n .plain ≡ false)
+named-fresh : (n : Lookup) → (begunNamed n .names ≡ noNames) × (begunNamed n .plain ≡ false)
 unfolding begunNamed fresh
 named-fresh (Known c) = (refl, refl)
 named-fresh Unknown = (refl, refl)

@@ -16,8 +16,8 @@ use Rattle.orders.specs.declared.Usage.{Usage}
 use Rattle.orders.specs.declared.Usage.the-variants.{Right, TooFew, TooMany, InputTwice}
 use Rattle.orders.specs.declared.Names.{Names}
 use Rattle.orders.specs.declared.Order.{Order}
-use Rattle.menu.specs.declared.table.Found.{Found}
-use Rattle.menu.specs.declared.table.Found.the-variants.{Known, Unknown}
+use Rattle.menu.specs.declared.table.Lookup.{Lookup}
+use Rattle.menu.specs.declared.table.Lookup.the-variants.{Known, Unknown}
 use Rattle.menu.specs.Table.{rowOf, commandNamed}
 use Rattle.orders.specs.Usage.{dash, argumentOf, noNames, oneMore, fresh, stopped, isRight, begunNamed, begunAs, begun, named, nameTaken, takenPlain, takenAs, taken, closed, takenAll, ordered}
 
@@ -32,7 +32,7 @@ fresh-fits : (c : Command) (u : Usage) (at : ℕ) → Fitting (fresh c u at)
 unfolding fresh noNames
 fresh-fits c u at = record { few = omega arith; single = omega arith }
 
-named-fits : (n : Found) → Fitting (begunNamed n)
+named-fits : (n : Lookup) → Fitting (begunNamed n)
 unfolding begunNamed
 named-fits (Known c) = fresh-fits c _ _
 named-fits Unknown = fresh-fits _ _ _

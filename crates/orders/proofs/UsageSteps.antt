@@ -19,8 +19,8 @@ use Rattle.orders.specs.declared.Usage.{Usage}
 use Rattle.orders.specs.declared.Usage.the-variants.{Right, Wished, NoCommand, NoOption, TooFew, TooMany, InputTwice}
 use Rattle.orders.specs.declared.Names.{Names}
 use Rattle.orders.specs.declared.Order.{Order}
-use Rattle.menu.specs.declared.table.Found.{Found}
-use Rattle.menu.specs.declared.table.Found.the-variants.{Known, Unknown}
+use Rattle.menu.specs.declared.table.Lookup.{Lookup}
+use Rattle.menu.specs.declared.table.Lookup.the-variants.{Known, Unknown}
 use Rattle.menu.specs.Table.{rowOf, commandNamed}
 use Rattle.orders.specs.Usage.{dash, argumentOf, isName, oneMore, fresh, stopped, isRight, begunNamed, begunAs, begun, named, nameTaken, takenPlain, takenAs, taken, closed}
 
@@ -94,11 +94,11 @@ pub ruleset adding = (more-first, more-second, more-later, name-more, needs)
 pub right-case : (u y : Usage) (r : Bool) → u ≡ y → r ≡ isRight y → r ≡ isRight u
 right-case u y r e p = rw e p
 
-pub begun-known : (n : Found) (c : Command) (r : Order) → n ≡ Known c → r ≡ fresh c Right 0 → r ≡ begunNamed n
+pub begun-known : (n : Lookup) (c : Command) (r : Order) → n ≡ Known c → r ≡ fresh c Right 0 → r ≡ begunNamed n
 unfolding begunNamed
 begun-known n c r e p = rw e p
 
-pub begun-unknown : (n : Found) (r : Order) → n ≡ Unknown → r ≡ fresh Help NoCommand 1 → r ≡ begunNamed n
+pub begun-unknown : (n : Lookup) (r : Order) → n ≡ Unknown → r ≡ fresh Help NoCommand 1 → r ≡ begunNamed n
 unfolding begunNamed
 begun-unknown n r e p = rw e p
 
@@ -107,7 +107,7 @@ module _ (arg : List ℕ) (a : Argument) (ea : a ≡ argumentOf false arg) (r : 
   unfolding begun begunAs
   begun-wish e p = rw (← ea, e) p
 
-  module _ (n : Found) (en : n ≡ commandNamed arg) (er : r ≡ begunNamed n) where
+  module _ (n : Lookup) (en : n ≡ commandNamed arg) (er : r ≡ begunNamed n) where
     pub begun-name : a ≡ Name → r ≡ begun arg
     unfolding begun begunAs
     begun-name e = rw (← ea, e, ← en) er

@@ -8,8 +8,8 @@ use Rattle.ascii.specs.Text.{bytesOf}
 use Rattle.ascii.specs.Words.{begins, same}
 use Rattle.menu.specs.declared.Command.{Command}
 use Rattle.menu.specs.declared.Command.the-variants.{Help}
-use Rattle.menu.specs.declared.table.Found.{Found}
-use Rattle.menu.specs.declared.table.Found.the-variants.{Known, Unknown}
+use Rattle.menu.specs.declared.table.Lookup.{Lookup}
+use Rattle.menu.specs.declared.table.Lookup.the-variants.{Known, Unknown}
 use Rattle.menu.specs.Table.{rowOf, commandNamed}
 use Rattle.orders.specs.declared.Argument.{Argument}
 use Rattle.orders.specs.declared.Argument.the-variants.{Name, Plain, Wish, Dashed}
@@ -75,7 +75,7 @@ isRight InputTwice = false
 -- ---- the first argument
 
 -- The command that was looked up; an unknown one is a fault of argument 1.
-unfoldable pub begunNamed : Found → Order
+unfoldable pub begunNamed : Lookup → Order
 begunNamed (Known c) = fresh c Right 0
 begunNamed Unknown = fresh Help NoCommand 1
 

@@ -12,7 +12,7 @@ use crate::Usage;
 use ascii::begins;
 use ascii::same;
 use menu::Command;
-use menu::Found;
+use menu::Lookup;
 use menu::ROW_ROOM;
 use menu::find_command;
 use menu::put_row;
@@ -148,12 +148,12 @@ fn is_right(u: Usage) -> bool
 }
 
 // What the first argument orders, where it is no wish.
-fn begin_named(n: Found) -> Order
+fn begin_named(n: Lookup) -> Order
     ensures { λ r. ⌜ r ≡ begunNamed n ⌝ }
 {
     match n {
-        Found::Known(c) => fresh(c, Usage::Right, 0),
-        Found::Unknown => fresh(Command::Help, Usage::NoCommand, 1),
+        Lookup::Known(c) => fresh(c, Usage::Right, 0),
+        Lookup::Unknown => fresh(Command::Help, Usage::NoCommand, 1),
     }
 }
 
