@@ -1,0 +1,3 @@
+-- Laws of the reasons and their lines.
+pub mod ReasonLaws
+pub mod Examples
