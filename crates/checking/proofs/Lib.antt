@@ -1,7 +1,6 @@
 -- Laws of the lines that `check` prints, for the proofs of several functions and for the program above.
 pub mod TallyLaws
 pub mod RunLaws
-pub mod UnreadLaws
 pub mod AccountLaws
 pub mod PartLaws
 pub mod LineLaws

@@ -1,4 +1,4 @@
--- No second outcome meets the contract of a file's line. For a run's line and that of a file that can't be read, `one-laid` of `ascii` says so.
+-- No second outcome meets the contract of a file's line. For a run's line, `one-laid` of `ascii` says so.
 -- Assumes nothing.
 use mathlib.Core.Path.{_≡_, sym, _∙_}
 use mathlib.Core.Bool.{Bool}

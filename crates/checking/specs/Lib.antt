@@ -3,6 +3,5 @@ pub mod Counted
 pub mod Tallies
 pub mod Checked
 pub mod Tallied
-pub mod Unread
 pub mod Account
 pub mod Inner

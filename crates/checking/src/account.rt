@@ -5,7 +5,7 @@ ghost use Prim.Native.Nat.{_+_, _≤_};
 ghost use lib.ListN.{length};
 use crate::line::check_line;
 use crate::run::Came;
-use crate::unread::unread_line;
+use reasons::unread_line;
 
 pub struct Account {
     pub count: usize,

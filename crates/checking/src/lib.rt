@@ -11,11 +11,9 @@ pub use run::no_files;
 pub use run::tally_line;
 pub use run::worth_telling;
 pub use tallies::action_count;
-pub use unread::unread_line;
 
 mod account;
 mod line;
 mod parts;
 mod run;
 mod tallies;
-mod unread;

@@ -182,7 +182,7 @@ fn check(arg: &mut [u8], file: &mut [u8], out: &mut [u8]) -> Ending
 fn say_unread(out: &mut [u8], name: &[u8], error: i32) -> Ending
     requires { ⌜ (length (now name) ≤ 4096) × (8192 ≤ length (now out)) ⌝ }
 {
-    let n = checking::unread_line(out, name, error);
+    let n = reasons::unread_line(out, name, error);
     streams::say_first(out, n);
     checking::ending_of(checking::count_file(checking::no_files(), Came::Unread))
 }
