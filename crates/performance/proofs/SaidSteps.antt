@@ -2,18 +2,22 @@
 -- Assumes nothing.
 use mathlib.Core.Path.{_≡_, refl}
 use mathlib.Core.Bool.{Bool, true, false}
-use mathlib.Core.List.{List, _++_}
+use mathlib.Core.List.{List}
 use Prim.Native.Nat.{ℕ, _+_, _≤_}
 use native.Mathlib.Omega.{arith}
 use lib.ListN.{length, take, length-take}
 use lib.Seq.{take-length, take-all, length-take-le}
+use lib.IntN.{ℤ}
+use mir.Syntax.{w32}
+use mir.Val.{SFits, ofZ, toZ}
+use mir.Facts.{toZ-ofZ}
 use borrow.Author.Needs.{needs}
 use Rattle.base.specs.Tests.{pick}
 use Rattle.ascii.specs.Laying.{Laid}
-use Rattle.ascii.proofs.LayLaws.{laid-join}
 use Rattle.session.specs.declared.Refusal.{Refusal}
 use Rattle.refusals.specs.Line.{refusalLine, refusalRoom}
-use Rattle.performance.specs.Said.{mostName, saidRoom, toldName, ofFile, refusedName, refusedLine, unreadableWords}
+use Rattle.reasons.specs.Reasons.{unreadLine, reasonLineRoom}
+use Rattle.performance.specs.Said.{mostName, saidRoom, toldName, ofFile, refusedName, refusedLine}
 
 -- ---- names
 
@@ -34,24 +38,21 @@ module _ (o name : List ℕ) (n : ℕ) (p : n ≤ mostName) (q : saidRoom ≤ le
   cut-most : length (take n name) ≤ mostName
   cut-most = omega (arith, length-take n name)
 
-  pub name-fits : 0 + length (take n name) ≤ length o
-  name-fits = omega (arith, cut-most)
+  pub unread-fits : reasonLineRoom + length (take n name) ≤ length o
+  unread-fits = omega (arith, cut-most)
 
   pub line-fits : refusalRoom + length (take n name) ≤ length o
   line-fits = omega (arith, cut-most)
 
-  pub words-fit : (m : List ℕ) (a : ℕ) → Laid o 0 (take n name) m a → a + length unreadableWords ≤ length m
-  words-fit m a l = let s : length m ≡ length o = l .size in omega (arith, cut-most, l .stop)
-
 module _ (o m name : List ℕ) (n a : ℕ) (e : take n name ≡ toldName name) where
-  pub lay-unreadable : (x : List ℕ) (r : ℕ) → Laid o 0 (take n name) m a → Laid m a unreadableWords x r → Laid o 0 (toldName name ++ unreadableWords) x r
-  lay-unreadable x r p q = laid-join o m x _ _ 0 a r (rw e at p) q
+  pub lay-unread : (z : ℤ) → SFits w32 z → Laid o 0 (unreadLine (take n name) (toZ w32 (ofZ w32 z))) m a → Laid o 0 (unreadLine (toldName name) z) m a
+  lay-unread z f p = rw (toZ-ofZ f, e) at p
 
   pub lay-refused : (file : List ℕ) (x : Refusal) → Laid o 0 (refusalLine (take n name) file x) m a → Laid o 0 (refusedLine name file x) m a
   unfolding refusedLine
   lay-refused file x p = rw e at p
 
-pub ruleset saying = (name-fits, line-fits, words-fit, lay-unreadable, lay-refused, length-take-le, needs)
+pub ruleset saying = (unread-fits, line-fits, lay-unread, lay-refused, length-take-le, needs)
 
 module _ (o m score first file : List ℕ) (r : ℕ) (t : Bool) (x : Refusal) (e : t ≡ ofFile x) where
   pub refused-score : t ≡ true → Laid o 0 (refusedLine score file x) m r → Laid o 0 (refusedLine (refusedName score first x) file x) m r

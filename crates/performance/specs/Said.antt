@@ -1,10 +1,9 @@
--- The lines that tell people of a refused opening, and of an input that can't be read.
+-- The line that tells people of a refused opening, and as much of a name as is told.
 use Prim.Native.Nat.{ℕ}
 use mathlib.Core.Bool.{Bool, true, false}
 use mathlib.Core.List.{List}
 use lib.ListN.{take}
 use Rattle.base.specs.Tests.{pick}
-use Rattle.ascii.specs.Text.{bytesOf}
 use Rattle.session.specs.declared.Refusal.{Refusal}
 use Rattle.session.specs.declared.Refusal.the-variants.{MemoryShort, RoomShort, File, BadTempo, NoSession, NoEvent, NotAfter, BadMillis, ClockFull}
 use Rattle.refusals.specs.Line.{refusalLine}
@@ -40,7 +39,3 @@ refusedName score first x = pick (ofFile x) score first
 -- The line of a refusal of what has this name, with the entry of the score's bytes that is at fault.
 unfoldable pub refusedLine : (name file : List ℕ) → Refusal → List ℕ
 refusedLine name file x = refusalLine (toldName name) file x
-
--- What stands behind the name of an input that can't be read. The reason follows it.
-abbrev pub unreadableWords : List ℕ
-unreadableWords = bytesOf ": can't be read"

@@ -9,7 +9,7 @@ ghost use Rattle.chunks.specs.Reading.{bytesRead};
 ghost use Rattle.chunks.specs.Inner.{readingOf, Going, WentOn};
 ghost use Rattle.performance.specs.Openings.{refusedAfter};
 use crate::said::after_line;
-use crate::said::say_unreadable;
+use crate::said::say_unread;
 use chunks::Progress;
 use chunks::Step;
 use streams::Got;
@@ -155,14 +155,14 @@ fn take_part(
     take_chunk(file, score, first, mem, room, &chunk[from..n], line, s, out)
 }
 
-// The run at the end of its input, or where a read failed.
-fn ended(commands: &[u8], got: Got, s: Run) -> Run
+// The run at the end of its input, or where a read failed with this error number.
+fn ended(commands: &[u8], got: Got, error: i32, s: Run) -> Run
     ensures { λ r. ⌜ r .progress ≡ s .progress ⌝ }
 {
     let Got::Failed = got else {
         return s;
     };
-    say_unreadable(commands);
+    say_unread(commands, error);
     let progress = s.progress;
     Run {
         progress,
@@ -203,8 +203,9 @@ pub fn read_lines(
     let mut reads: u64 = 0;
     while reads < MOST_READS {
         let got = streams::read_some(input, &mut chunk);
+        let error = os::errno();
         let Got::Bytes(n) = got else {
-            return ended(commands, got, s);
+            return ended(commands, got, error, s);
         };
         s = take_part(file, score, first, mem, room, &chunk, n, line, s, out);
         if s.failed {

@@ -1,14 +1,13 @@
 // What a run tells people: what its lines print, and on standard error why it was refused or has failed.
 ghost use mathlib.Core.Path.{_≡_};
 ghost use mathlib.Core.Bool.{true};
-ghost use mathlib.Core.List.{_++_};
 ghost use Prim.Native.Nat.{_≤_};
 ghost use lib.ListN.{length, take};
 ghost use Rattle.base.specs.Tests.{pick};
 ghost use Rattle.ascii.specs.Laying.{Laid};
+ghost use Rattle.reasons.specs.Reasons.{unreadLine};
 ghost use Rattle.performance.specs.Openings.{tellsRefusal};
-ghost use Rattle.performance.specs.Said.{mostName, saidRoom, toldName, ofFile, refusedName, refusedLine, unreadableWords};
-use ascii::put_bytes;
+ghost use Rattle.performance.specs.Said.{mostName, saidRoom, toldName, ofFile, refusedName, refusedLine};
 use session::Refusal;
 
 // A name is told up to this many bytes: what is longer is cut.
@@ -16,15 +15,6 @@ const MOST_NAME: usize = 4352;
 
 // Room for any line that has a name in front.
 const SAID_ROOM: usize = 4608;
-
-// The first n bytes of `text`, with why the last call failed behind them.
-fn say_failure(text: &[u8], n: usize) {
-    if text.len() < n {
-        return;
-    }
-    let from = 0;
-    os::fail(&text[from..n]);
-}
 
 // ---- names
 
@@ -38,21 +28,21 @@ fn told(name: &[u8]) -> usize
     name.len()
 }
 
-// What the input is called, and that it can't be read.
-fn put_unreadable(text: &mut [u8], name: &[u8]) -> usize
+// ---- an input that can't be read
+
+// The line of an input that can't be read, with as much of the name as is told.
+fn put_unread(text: &mut [u8], name: &[u8], error: i32) -> usize
     requires { ⌜ saidRoom ≤ length (now text) ⌝ }
-    ensures { λ r. ⌜ Laid (now (text .entry)) 0 (toldName (now (name .entry)) ++ unreadableWords) (now (text .exit)) r ⌝ }
+    ensures { λ r. ⌜ Laid (now (text .entry)) 0 (unreadLine (toldName (now (name .entry))) error) (now (text .exit)) r ⌝ }
 {
     let n = told(name);
-    let at = put_bytes(text, 0, &name[..n]);
-    put_bytes(text, at, b": can't be read")
+    reasons::unread_line(text, &name[..n], error)
 }
 
-// Tells that the input can't be read, and why. Nothing is written before the reason is known, since a write may change it.
-pub fn say_unreadable(name: &[u8]) {
+pub fn say_unread(name: &[u8], error: i32) {
     let mut text = [0u8; SAID_ROOM];
-    let n = put_unreadable(&mut text, name);
-    say_failure(&text, n);
+    let n = put_unread(&mut text, name, error);
+    streams::say_first(&text, n);
 }
 
 // ---- a refused opening

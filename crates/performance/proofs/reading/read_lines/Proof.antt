@@ -37,6 +37,7 @@ read-lines-spec =
     (λ c. search inputs)
     (λ c. search inputs)
     (λ c κs. search inputs)
+    (λ c κs. search inputs)
     (λ c. search inputs)
     (λ c κs. search inputs)
     (λ c. search inputs)
