@@ -1,5 +1,4 @@
--- Laws of what people are told, and of the loop over a chunk.
+-- Laws of a line that is read, and of the loop over a chunk.
 pub mod OpeningLaws
-mod RefusalSteps
-mod SaidSteps
+mod TurnSteps
 mod ChunkSteps

@@ -1,3 +1,2 @@
--- What people are told of a run that was refused or has failed.
-pub mod Said
-pub mod Openings
+-- When a run has been refused.
+pub mod Refused

@@ -4,11 +4,10 @@ ghost use lib.ListN.{length};
 ghost use Rattle.playing.specs.Inner.{Asked, outputRoom};
 use reading::Run;
 use reading::read_lines;
-use said::after_line;
 use streams::Ending;
+use telling::after_line;
 
 mod reading;
-mod said;
 
 // The input's end: the line that is left, if any is, and the end. How the run has come out.
 fn finish(

@@ -7,12 +7,12 @@ ghost use Rattle.lines.specs.Input.{keptBytes};
 ghost use Rattle.playing.specs.Inner.{Asked, outputRoom};
 ghost use Rattle.chunks.specs.Reading.{bytesRead};
 ghost use Rattle.chunks.specs.Inner.{readingOf, Going, WentOn};
-ghost use Rattle.performance.specs.Openings.{refusedAfter};
-use crate::said::after_line;
-use crate::said::say_unread;
+ghost use Rattle.performance.specs.Refused.{refusedAfter};
 use chunks::Progress;
 use chunks::Step;
 use streams::Got;
+use telling::after_line;
+use telling::say_unread;
 
 // More reads than any input lasts for.
 const MOST_READS: u64 = 1000000000000000;

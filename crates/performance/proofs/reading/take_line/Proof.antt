@@ -1,6 +1,6 @@
 -- The line is read on, and what it printed is what the definition has.
 -- Assumes nothing.
-use Rattle.performance.proofs.RefusalSteps.{turns}
+use Rattle.performance.proofs.TurnSteps.{turns}
 use Rattle.performance.proofs.reading.take_line.Statement.{statement}
 use Rattle.performance.proofs.reading.take_line.Tie as tie
 

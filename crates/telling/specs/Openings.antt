@@ -11,7 +11,6 @@ use Rattle.lines.specs.declared.Command.the-variants.{Open, Hear, Pass, Bad}
 use Rattle.lines.specs.Words.{openWord}
 use Rattle.lines.specs.Commands.{commandOf, inTurn}
 use Rattle.playing.specs.Printed.{Stand, carriedBy}
-use Rattle.chunks.specs.Reading.{Reading, lineOn}
 
 -- What an opening prints that was granted begins so.
 abbrev pub grantedWord : List ℕ
@@ -31,7 +30,3 @@ refusedBy f n s Bad = false
 -- Line n of the input is an opening that is refused.
 unfoldable pub openingRefused : (file : List ℕ) → (line : ℕ) → Stand → List ℕ → Bool
 openingRefused f n s l = refusedBy f n s (inTurn (eqb n 1) (s .opened) (commandOf l))
-
--- Whether an opening has been refused, after the rest of a chunk up to its first line's end.
-unfoldable pub refusedAfter : (file : List ℕ) → Reading → (rest : List ℕ) → (refused : Bool) → Bool
-refusedAfter f r rest refused = pick (tellsRefusal (lineOn f r rest .output)) true refused

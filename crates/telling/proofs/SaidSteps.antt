@@ -17,7 +17,7 @@ use Rattle.ascii.specs.Laying.{Laid}
 use Rattle.session.specs.declared.Refusal.{Refusal}
 use Rattle.refusals.specs.Line.{refusalLine, refusalRoom}
 use Rattle.reasons.specs.Reasons.{unreadLine, reasonLineRoom}
-use Rattle.performance.specs.Said.{mostName, saidRoom, toldName, ofFile, refusedName, refusedLine}
+use Rattle.telling.specs.Said.{mostName, saidRoom, toldName, ofFile, refusedName, refusedLine}
 
 -- ---- names
 

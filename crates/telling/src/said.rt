@@ -1,4 +1,4 @@
-// What a run tells people: what its lines print, and on standard error why it was refused or has failed.
+// Why a run was refused or has failed, on standard error.
 ghost use mathlib.Core.Path.{_≡_};
 ghost use mathlib.Core.Bool.{true};
 ghost use Prim.Native.Nat.{_≤_};
@@ -6,8 +6,8 @@ ghost use lib.ListN.{length, take};
 ghost use Rattle.base.specs.Tests.{pick};
 ghost use Rattle.ascii.specs.Laying.{Laid};
 ghost use Rattle.reasons.specs.Reasons.{unreadLine};
-ghost use Rattle.performance.specs.Openings.{tellsRefusal};
-ghost use Rattle.performance.specs.Said.{mostName, saidRoom, toldName, ofFile, refusedName, refusedLine};
+ghost use Rattle.telling.specs.Openings.{tellsRefusal};
+ghost use Rattle.telling.specs.Said.{mostName, saidRoom, toldName, ofFile, refusedName, refusedLine};
 use session::Refusal;
 
 // A name is told up to this many bytes: what is longer is cut.

@@ -1,8 +1,8 @@
 -- Whether the refusal is for the file decides which name is told.
 -- Assumes nothing.
-use Rattle.performance.proofs.SaidSteps.{refusing}
-use Rattle.performance.proofs.said.put_refusal.Statement.{statement}
-use Rattle.performance.proofs.said.put_refusal.Tie as tie
+use Rattle.telling.proofs.SaidSteps.{refusing}
+use Rattle.telling.proofs.said.put_refusal.Statement.{statement}
+use Rattle.telling.proofs.said.put_refusal.Tie as tie
 
 pub put-refusal-spec : {M : Type 1} → statement M
 put-refusal-spec =

@@ -1,0 +1,4 @@
+-- Laws of what people are told.
+pub mod OpeningLaws
+mod RefusalSteps
+mod SaidSteps

@@ -1,0 +1,100 @@
+-- What a line prints tells of a refusal exactly where the line is an opening that is refused: no other line begins as an opening's does, and 0 is no refusal's number.
+-- Assumes nothing.
+use mathlib.Core.Path.{_≡_, refl}
+use mathlib.Core.Bool.{Bool, true, false, not}
+use mathlib.Core.List.{List, [], _∷_, _++_}
+use Prim.Native.Nat.{ℕ, _+_, _≤_}
+use native.Mathlib.Omega.{arith}
+use lib.Dec.{eqb}
+use borrow.Author.Tests.{ne-eqb}
+use Rattle.base.specs.Tests.{pick}
+use Rattle.base.proofs.TestLaws.{every-head, between-high}
+use Rattle.ascii.specs.Words.{begins, space, zeroDigit, nineDigit}
+use Rattle.ascii.specs.Numbers.{allDigits}
+use Rattle.ascii.specs.Decimals.{digitsOf, decimal}
+use Rattle.ascii.proofs.DecimalLaws.{decimal-digits}
+use Rattle.contents.specs.declared.Fault.{Fault}
+use Rattle.contents.specs.declared.Fault.the-variants.{FileShort, BadCount, BadOffset, BadLength, BadEvent, BadItem, BadMessage, TextLeft, NoMessage}
+use Rattle.contents.specs.Replies.{faultRow}
+use Rattle.session.specs.declared.Refusal.{Refusal}
+use Rattle.session.specs.declared.Refusal.the-variants.{MemoryShort, RoomShort, File, BadTempo, NoSession, NoEvent, NotAfter, BadMillis, ClockFull}
+use Rattle.session.specs.Replies.{refusalRow}
+use Rattle.sending.specs.Room.{Message}
+use Rattle.opening.specs.declared.Opening.{Opening}
+use Rattle.opening.specs.declared.Opening.the-variants.{Opened, Refused as notOpened}
+use Rattle.opening.specs.Opening.{OpeningResult}
+use Rattle.opening.specs.Replies.{openingReply}
+use Rattle.sequencer.specs.declared.Sending.{Sending}
+use Rattle.sequencer.specs.declared.Sending.the-variants.{Sent, Refused as notSent}
+use Rattle.sequencer.specs.Calls.{SendingResult}
+use Rattle.lines.specs.declared.Command.{Command}
+use Rattle.lines.specs.declared.Command.the-variants.{Open, Hear, Pass, Bad}
+use Rattle.lines.specs.Output.{wordLine, wordsLine, openLine, figure, messageLine}
+use Rattle.playing.specs.Printed.{Stand, sentLine, sentLines, sendingLines, carriedOpening, carriedSending, carriedBy, carried}
+use Rattle.playing.proofs.OpenSteps.{refusal-numbered}
+use Rattle.telling.specs.Openings.{tellsRefusal, refusedBy, openingRefused}
+
+-- ---- an opening's line
+
+fault-told : (x : Fault) (c : ℕ) → tellsRefusal (openLine (faultRow x .number) c) ≡ true
+unfolding tellsRefusal begins pick wordsLine decimal digitsOf faultRow
+fault-told FileShort c = refl
+fault-told (BadCount at) c = refl
+fault-told (BadOffset at) c = refl
+fault-told BadLength c = refl
+fault-told (BadEvent at) c = refl
+fault-told (BadItem at) c = refl
+fault-told (BadMessage at) c = refl
+fault-told TextLeft c = refl
+fault-told NoMessage c = refl
+
+number-told : (x : Refusal) (c : ℕ) → tellsRefusal (openLine (refusalRow x .number) c) ≡ true
+unfolding tellsRefusal begins pick wordsLine decimal digitsOf refusalRow
+number-told MemoryShort c = refl
+number-told RoomShort c = refl
+number-told (File x) c = fault-told x c
+number-told BadTempo c = refl
+number-told NoSession c = refl
+number-told NoEvent c = refl
+number-told NotAfter c = refl
+number-told BadMillis c = refl
+number-told ClockFull c = refl
+
+opening-told : (y : Opening) → tellsRefusal (openLine (openingReply y .number) (openingReply y .parts)) ≡ not (eqb (openingReply y .number) 0)
+unfolding tellsRefusal begins pick wordLine wordsLine decimal digitsOf openingReply
+opening-told (Opened n) = refl
+opening-told (notOpened x) = rw (number-told x 0, refusal-numbered x)
+
+-- ---- other lines
+
+-- a line that begins with a number, or with the space behind it, is no opening's
+number-silent : (ds a b : List ℕ) → allDigits ds ≡ true → tellsRefusal (((ds ++ (space ∷ [])) ++ a) ++ b) ≡ false
+unfolding tellsRefusal begins pick allDigits
+number-silent [] a b p = refl
+number-silent (d ∷ ds) a b p =
+    let l : d ≤ nineDigit = between-high zeroDigit nineDigit d (every-head _ _ p) in
+    let e : eqb 111 d ≡ false = ne-eqb 111 d (λ q. omega arith) in
+    rw e
+
+sent-silent : (f : List ℕ) (k : ℕ) (l : List Message) → tellsRefusal (sentLines f k l) ≡ false
+unfolding sentLines sentLine messageLine figure tellsRefusal begins pick
+sent-silent f k [] = refl
+sent-silent f k (x ∷ l) = number-silent (decimal k) _ _ (decimal-digits k)
+
+sending-silent : (f m room : List ℕ) (y : Sending) → tellsRefusal (sendingLines f m room y) ≡ false
+unfolding sendingLines tellsRefusal begins pick wordLine
+sending-silent f m room (Sent c) = sent-silent f _ _
+sending-silent f m room (notSent x) = refl
+
+-- ---- every line
+
+command-told : (f : List ℕ) (n : ℕ) (s : Stand) (c : Command) → tellsRefusal (carriedBy f n s c .output) ≡ refusedBy f n s c
+unfolding carriedBy carriedOpening carriedSending refusedBy tellsRefusal begins pick wordLine
+command-told f n s (Open parts tempo) = opening-told _
+command-told f n s (Hear event tempo) = sending-silent f _ _ _
+command-told f n s (Pass ms) = sending-silent f _ _ _
+command-told f n s Bad = refl
+
+pub refusal-told : (f : List ℕ) (n : ℕ) (s : Stand) (l : List ℕ) → tellsRefusal (carried f n s l .output) ≡ openingRefused f n s l
+unfolding carried openingRefused
+refusal-told f n s l = command-told f n s _
