@@ -2,19 +2,18 @@
 -- Assumes nothing.
 use mathlib.Core.Path.{_≡_, refl, sym, ap, _∙_}
 use mathlib.Core.Bool.{Bool, true, false}
-use mathlib.Core.List.{List, []}
+use mathlib.Core.List.{List}
 use Prim.Native.Nat.{ℕ, _+_, _-_, _*_, _≤_, _<_}
 use native.Mathlib.Omega.{arith}
 use lib.ListN.{length, take, drop, drop-of-length-le, length-take}
 use borrow.Author.Needs.{needs}
-use Rattle.score.specs.File.{Accepted}
 use Rattle.lines.specs.Input.{keptBytes}
 use Rattle.playing.specs.Inner.{outputRoom, Asked}
 use Rattle.chunks.specs.declared.Progress.{Progress}
 use Rattle.chunks.specs.declared.Step.{Step}
-use Rattle.chunks.specs.Reading.{Reading, ReadOn, bytesRead, lineOn}
+use Rattle.chunks.specs.Reading.{Reading, ReadOn, bytesRead}
 use Rattle.chunks.specs.Inner.{readingOf, Going, WentOn}
-use Rattle.chunks.proofs.ReadingLaws.{readAfter, read-on}
+use Rattle.chunks.proofs.ReadingLaws.{read-on}
 
 -- The chunk is read up to a place, from r₀ on, with lines₀ lines before it.
 pub record Taking (f chunk : List ℕ) (r₀ : Reading) (lines₀ : ℕ) (m room line out : List ℕ) (at : ℕ) (p : Progress) : Type 0 where

@@ -1,9 +1,9 @@
 -- What a line prints tells of a refusal exactly where the line is an opening that is refused: no other line begins as an opening's does, and 0 is no refusal's number.
 -- Assumes nothing.
 use mathlib.Core.Path.{_≡_, refl}
-use mathlib.Core.Bool.{Bool, true, false, not}
+use mathlib.Core.Bool.{true, false, not}
 use mathlib.Core.List.{List, [], _∷_, _++_}
-use Prim.Native.Nat.{ℕ, _+_, _≤_}
+use Prim.Native.Nat.{ℕ, _≤_}
 use native.Mathlib.Omega.{arith}
 use lib.Dec.{eqb}
 use borrow.Author.Tests.{ne-eqb}
@@ -22,11 +22,9 @@ use Rattle.session.specs.Replies.{refusalRow}
 use Rattle.sending.specs.Room.{Message}
 use Rattle.opening.specs.declared.Opening.{Opening}
 use Rattle.opening.specs.declared.Opening.the-variants.{Opened, Refused as notOpened}
-use Rattle.opening.specs.Opening.{OpeningResult}
 use Rattle.opening.specs.Replies.{openingReply}
 use Rattle.sequencer.specs.declared.Sending.{Sending}
 use Rattle.sequencer.specs.declared.Sending.the-variants.{Sent, Refused as notSent}
-use Rattle.sequencer.specs.Calls.{SendingResult}
 use Rattle.lines.specs.declared.Command.{Command}
 use Rattle.lines.specs.declared.Command.the-variants.{Open, Hear, Pass, Bad}
 use Rattle.lines.specs.Output.{wordLine, wordsLine, openLine, figure, messageLine}

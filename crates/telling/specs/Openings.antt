@@ -1,6 +1,6 @@
 -- Whether a line of the input is an opening that is refused, and how that is read off what the line printed. That both agree is a theorem (proofs/OpeningLaws).
 use Prim.Native.Nat.{ℕ}
-use mathlib.Core.Bool.{Bool, true, false, not}
+use mathlib.Core.Bool.{Bool, false, not}
 use mathlib.Core.List.{List}
 use lib.Dec.{eqb}
 use Rattle.base.specs.Tests.{pick}
