@@ -8,9 +8,10 @@ use lib.Seq.{length-take-le}
 use borrow.Author.Needs.{needs}
 use Rattle.base.specs.Tests.{pick}
 use Rattle.base.proofs.TestLaws.{told-true, told-false}
-use Rattle.ascii.specs.Words.{begins}
+use Rattle.ascii.specs.Text.{bytesOf}
+use Rattle.ascii.specs.Words.{begins, same}
 use Rattle.lines.specs.Words.{openWord}
-use Rattle.telling.specs.Openings.{grantedWord, tellsRefusal}
+use Rattle.telling.specs.Openings.{grantedWord, tellsRefusal, tellsUnopened}
 
 -- ---- what was printed
 
@@ -23,7 +24,11 @@ module _ (bs : List ℕ) (t : Bool) (e : t ≡ begins grantedWord bs) where
   unfolding tellsRefusal pick
   tells-other u p q = rw (← e, p) q
 
-pub ruleset printing = (tells-granted, tells-other, length-take-le, needs)
+pub tells-unopened : (bs : List ℕ) (t : Bool) → t ≡ same (bytesOf "bad 1\n") bs → t ≡ tellsUnopened bs
+unfolding tellsUnopened
+tells-unopened bs t e = e
+
+pub ruleset printing = (tells-granted, tells-other, tells-unopened, length-take-le, needs)
 
 -- ---- after a line
 

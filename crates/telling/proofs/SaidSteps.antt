@@ -14,10 +14,12 @@ use mir.Facts.{toZ-ofZ}
 use borrow.Author.Needs.{needs}
 use Rattle.base.specs.Tests.{pick}
 use Rattle.ascii.specs.Laying.{Laid}
+use Rattle.ascii.specs.Text.{bytesOf}
+use Rattle.ascii.proofs.LayLaws.{laid-join}
 use Rattle.session.specs.declared.Refusal.{Refusal}
 use Rattle.refusals.specs.Line.{refusalLine, refusalRoom}
 use Rattle.reasons.specs.Reasons.{unreadLine, reasonLineRoom}
-use Rattle.telling.specs.Said.{mostName, saidRoom, toldName, ofFile, refusedName, refusedLine}
+use Rattle.telling.specs.Said.{mostName, saidRoom, toldName, ofFile, refusedName, refusedLine, unopenedLine}
 
 -- ---- names
 
@@ -38,6 +40,9 @@ module _ (o name : List ℕ) (n : ℕ) (p : n ≤ mostName) (q : saidRoom ≤ le
   cut-most : length (take n name) ≤ mostName
   cut-most = omega (arith, length-take n name)
 
+  pub name-fits : 0 + length (take n name) ≤ length o
+  name-fits = omega (arith, cut-most)
+
   pub unread-fits : reasonLineRoom + length (take n name) ≤ length o
   unread-fits = omega (arith, cut-most)
 
@@ -52,7 +57,22 @@ module _ (o m name : List ℕ) (n a : ℕ) (e : take n name ≡ toldName name) w
   unfolding refusedLine
   lay-refused file x p = rw e at p
 
+  pub lay-unopened : (l : List ℕ) (r : ℕ) → Laid o 0 (take n name) m a
+      → Laid m a (bytesOf ": opens no score, so every line is bad. The first line has to be O PARTS TEMPO, as O 65535 5040\n") l r → Laid o 0 (unopenedLine name) l r
+  unfolding unopenedLine
+  lay-unopened l r p q = laid-join o m l _ _ 0 a r (rw e at p) q
+
 pub ruleset saying = (unread-fits, line-fits, lay-unread, lay-refused, length-take-le, needs)
+
+-- There is room for the words behind the name.
+pub words-fit : (o m name : List ℕ) (n a : ℕ) → n ≤ mostName → saidRoom ≤ length o → Laid o 0 (take n name) m a
+    → a + length (bytesOf ": opens no score, so every line is bad. The first line has to be O PARTS TEMPO, as O 65535 5040\n") ≤ length m
+words-fit o m name n a p q l =
+    let s : a ≡ 0 + length (take n name) = l .stop in
+    let z : length m ≡ length o = l .size in
+    omega (arith, length-take n name)
+
+pub ruleset unopened = (name-fits, words-fit, lay-unopened, length-take-le, needs)
 
 module _ (o m score first file : List ℕ) (r : ℕ) (t : Bool) (x : Refusal) (e : t ≡ ofFile x) where
   pub refused-score : t ≡ true → Laid o 0 (refusedLine score file x) m r → Laid o 0 (refusedLine (refusedName score first x) file x) m r

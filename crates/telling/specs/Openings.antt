@@ -1,11 +1,11 @@
--- Whether a line of the input is an opening that is refused, and how that is read off what the line printed. That both agree is a theorem (proofs/OpeningLaws).
+-- Whether a line of the input is an opening that is refused, or opens nothing though it is the first, and how that is read off what the line printed. Of a refusal it is a theorem that both agree (proofs/OpeningLaws).
 use Prim.Native.Nat.{ℕ}
 use mathlib.Core.Bool.{Bool, false, not}
 use mathlib.Core.List.{List}
 use lib.Dec.{eqb}
 use Rattle.base.specs.Tests.{pick}
 use Rattle.ascii.specs.Text.{bytesOf}
-use Rattle.ascii.specs.Words.{begins}
+use Rattle.ascii.specs.Words.{begins, same}
 use Rattle.lines.specs.declared.Command.{Command}
 use Rattle.lines.specs.declared.Command.the-variants.{Open, Hear, Pass, Bad}
 use Rattle.lines.specs.Words.{openWord}
@@ -19,6 +19,10 @@ grantedWord = bytesOf "open 0 "
 -- What was printed is an opening's line, with another number than 0.
 unfoldable pub tellsRefusal : (printed : List ℕ) → Bool
 tellsRefusal bs = pick (begins grantedWord bs) false (begins openWord bs)
+
+-- What was printed is the line of a first line that is bad: without an opening every later line is bad as well.
+unfoldable pub tellsUnopened : (printed : List ℕ) → Bool
+tellsUnopened bs = same (bytesOf "bad 1\n") bs
 
 -- A command is an opening, and no session is open after it.
 unfoldable pub refusedBy : (file : List ℕ) → (line : ℕ) → Stand → Command → Bool

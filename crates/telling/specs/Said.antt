@@ -1,9 +1,10 @@
--- The line that tells people of a refused opening, and as much of a name as is told.
+-- The lines that tell people of a refused opening and of a first line that opens nothing, and as much of a name as is told.
 use Prim.Native.Nat.{ℕ}
 use mathlib.Core.Bool.{Bool, true, false}
-use mathlib.Core.List.{List}
+use mathlib.Core.List.{List, _++_}
 use lib.ListN.{take}
 use Rattle.base.specs.Tests.{pick}
+use Rattle.ascii.specs.Text.{bytesOf}
 use Rattle.session.specs.declared.Refusal.{Refusal}
 use Rattle.session.specs.declared.Refusal.the-variants.{MemoryShort, RoomShort, File, BadTempo, NoSession, NoEvent, NotAfter, BadMillis, ClockFull}
 use Rattle.refusals.specs.Line.{refusalLine}
@@ -39,3 +40,7 @@ refusedName score first x = pick (ofFile x) score first
 -- The line of a refusal of what has this name, with the entry of the score's bytes that is at fault.
 unfoldable pub refusedLine : (name file : List ℕ) → Refusal → List ℕ
 refusedLine name file x = refusalLine (toldName name) file x
+
+-- What is wrong with a first line that opens nothing, what follows from it, and what to write.
+unfoldable pub unopenedLine : (first : List ℕ) → List ℕ
+unopenedLine first = toldName first ++ bytesOf ": opens no score, so every line is bad. The first line has to be O PARTS TEMPO, as O 65535 5040\n"

@@ -6,8 +6,9 @@ ghost use lib.ListN.{length, take};
 ghost use Rattle.base.specs.Tests.{pick};
 ghost use Rattle.ascii.specs.Laying.{Laid};
 ghost use Rattle.reasons.specs.Reasons.{unreadLine};
-ghost use Rattle.telling.specs.Openings.{tellsRefusal};
-ghost use Rattle.telling.specs.Said.{mostName, saidRoom, toldName, ofFile, refusedName, refusedLine};
+ghost use Rattle.telling.specs.Openings.{tellsRefusal, tellsUnopened};
+ghost use Rattle.telling.specs.Said.{mostName, saidRoom, toldName, ofFile, refusedName, refusedLine, unopenedLine};
+use ascii::put_bytes;
 use session::Refusal;
 
 // A name is told up to this many bytes: what is longer is cut.
@@ -101,7 +102,43 @@ fn is_refusal(out: &[u8], n: usize) -> bool
     ascii::begins(b"open ", &out[..n])
 }
 
-// Whether an opening has been refused, after a line that printed the first n bytes of `out`.
+// ---- a first line that opens nothing
+
+// Whether the first n bytes of `out`, which a line printed, tell of it.
+fn is_unopened(out: &[u8], n: usize) -> bool
+    requires { ⌜ n ≤ length (now out) ⌝ }
+    ensures { λ r. ⌜ r ≡ tellsUnopened (take n (now (out .entry))) ⌝ }
+{
+    ascii::same(b"bad 1\n", &out[..n])
+}
+
+fn put_unopened(text: &mut [u8], first: &[u8]) -> usize
+    requires { ⌜ saidRoom ≤ length (now text) ⌝ }
+    ensures { λ r. ⌜ Laid (now (text .entry)) 0 (unopenedLine (now (first .entry))) (now (text .exit)) r ⌝ }
+{
+    let n = told(first);
+    let at = put_bytes(text, 0, &first[..n]);
+    put_bytes(
+        text,
+        at,
+        b": opens no score, so every line is bad. The first line has to be O PARTS TEMPO, as O 65535 5040\n",
+    )
+}
+
+fn say_unopened(first: &[u8], out: &[u8], n: usize)
+    requires { ⌜ n ≤ length (now out) ⌝ }
+{
+    if !is_unopened(out, n) {
+        return;
+    }
+    let mut text = [0u8; SAID_ROOM];
+    let k = put_unopened(&mut text, first);
+    streams::say_first(&text, k);
+}
+
+// ---- after a line
+
+// Whether an opening has been refused, after a line that printed the first n bytes of `out`. People are told of it, and of a first line that opens nothing.
 pub fn after_line(
     file: &[u8],
     score: &[u8],
@@ -114,6 +151,7 @@ pub fn after_line(
     ensures { λ r. ⌜ r ≡ pick (tellsRefusal (take n (now (out .entry)))) true refused ⌝ }
 {
     if !is_refusal(out, n) {
+        say_unopened(first, out, n);
         return refused;
     }
     say_refusal(file, score, first);

@@ -9,6 +9,7 @@ after-line-spec =
     tie.close
     (tie.spec
     (λ c κs. search after)
+    (λ c κs. search after)
     (λ c. search after)
     (λ c κs. search after)
     (λ c. search after))
