@@ -5,8 +5,9 @@ use crate::score::{
     self, u32_at, Item, Refusal, Score, What, CONTENTS, EVENT_BYTES, ITEM_BYTES, MESSAGE_BYTES,
 };
 use std::ffi::OsStr;
-use std::fs;
+use std::fs::{self, File};
 use std::io::{self, Read};
+use std::os::fd::AsFd;
 use std::os::unix::ffi::OsStrExt;
 
 /// What stands in the contents, four bytes each.
@@ -21,10 +22,16 @@ const IN_CONTENTS: [&str; 8] = [
     "count of text bytes",
 ];
 
+/// The system's numbers that have words.
+const NOT_PERMITTED: i32 = 1;
 const NO_SUCH_FILE: i32 = 2;
-const NO_PERMISSION: i32 = 13;
+const DEVICE_FAILED: i32 = 5;
+const NOT_OPEN: i32 = 9;
+const NO_ACCESS: i32 = 13;
+const NOT_A_FOLDER: i32 = 20;
 const A_FOLDER: i32 = 21;
 const NAME_TOO_LONG: i32 = 36;
+const TOO_MANY_LINKS: i32 = 40;
 
 /// The whole line, with its newline, for a file as it is named in the arguments.
 pub fn line(argument: &OsStr) -> Vec<u8> {
@@ -41,8 +48,10 @@ fn contents_of(argument: &OsStr) -> io::Result<Vec<u8>> {
     if argument != "-" {
         return fs::read(argument);
     }
+    // The library's own standard input would take one that is not open for empty.
+    let mut input = File::from(io::stdin().as_fd().try_clone_to_owned()?);
     let mut file = Vec::new();
-    io::stdin().read_to_end(&mut file)?;
+    input.read_to_end(&mut file)?;
     Ok(file)
 }
 
@@ -58,12 +67,18 @@ pub fn shown(name: &[u8]) -> Vec<u8> {
     name.iter().map(show).collect()
 }
 
+/// In words, or by the system's number where there are none.
 pub fn reason(error: &io::Error) -> String {
     let words = match error.raw_os_error().unwrap_or(0) {
+        NO_SUCH_FILE if mutant::is(mutant::NOWHERE_IS_A_FOLDER) => "a folder",
         NO_SUCH_FILE => "no such file",
-        NO_PERMISSION => "no permission",
         A_FOLDER => "a folder",
+        NOT_PERMITTED | NO_ACCESS => "no permission",
         NAME_TOO_LONG => "the name is too long",
+        NOT_A_FOLDER => "the name leads through a file",
+        TOO_MANY_LINKS => "links that lead in a circle",
+        NOT_OPEN => "closed",
+        DEVICE_FAILED => "the disk or the device has failed",
         number => return format!("error {number}"),
     };
     String::from(words)

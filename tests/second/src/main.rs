@@ -8,6 +8,7 @@ mod damage;
 mod lines;
 mod mutant;
 mod noise;
+mod odd;
 mod play;
 mod random;
 mod rules;
@@ -156,12 +157,16 @@ fn files(seed: u64, count: u64, out: &Path) -> Result<bool, Fault> {
     Ok(true)
 }
 
-/// Each seed's file for `check`, under its number in the row of seeds.
+/// Each seed's file for `check`, under its number in the row of seeds, and the
+/// odd entries beside them.
 fn scatter(folder: &Path, seed: u64, count: u64) -> Result<bool, Fault> {
     fs::create_dir_all(folder)?;
     for index in 0..count {
         let file = scatter::file_of_seed(seed.wrapping_add(index));
         fs::write(folder.join(format!("{index:04}.bin")), file)?;
+    }
+    for entry in odd::make_all(folder) {
+        eprintln!("second: left out: {entry}");
     }
     Ok(true)
 }

@@ -4,7 +4,7 @@
 use std::sync::OnceLock;
 
 pub const VARIABLE: &str = "SECOND_MUTANT";
-pub const LAST: u32 = 21;
+pub const LAST: u32 = 22;
 
 pub const EXACTLY_E_J_IS_PAST: u32 = 1;
 pub const SLICE_FROM_THE_MISSED_EVENT: u32 = 2;
@@ -27,6 +27,7 @@ pub const DEPTH_NINE_ACCEPTED: u32 = 18;
 pub const ITEMS_FROM_ONE: u32 = 19;
 pub const GROUPS_COUNT_AS_ACTIONS: u32 = 20;
 pub const PARTS_OF_ACTIONS_ONLY: u32 = 21;
+pub const NOWHERE_IS_A_FOLDER: u32 = 22;
 
 /// The number in the environment, 0 without one; an unreadable one is an error
 /// so that a slip is never taken for a run without a mutant.

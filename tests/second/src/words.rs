@@ -1,6 +1,7 @@
 //! The paper's own small scores, with the values it gives written out by hand.
 
 use crate::lines::{line, reason, shown, verdict};
+use crate::odd::{self, What};
 use crate::play::play;
 use crate::rules::performance;
 use crate::scatter;
@@ -176,6 +177,7 @@ pub fn words() -> (u64, u64) {
     refused_lines(&mut tally);
     names_and_reasons(&mut tally);
     scattered(&mut tally);
+    odd_entries(&mut tally);
     (tally.passed, tally.failed)
 }
 
@@ -425,12 +427,22 @@ fn names_and_reasons(tally: &mut Tally) {
         b"/: can't be read: a folder\n",
     );
     for (number, words) in [
+        (1, "no permission"),
         (2, "no such file"),
+        (3, "error 3"),
+        (4, "error 4"),
+        (5, "the disk or the device has failed"),
+        (6, "error 6"),
+        (9, "closed"),
+        (12, "error 12"),
         (13, "no permission"),
-        (20, "error 20"),
+        (19, "error 19"),
+        (20, "the name leads through a file"),
         (21, "a folder"),
+        (22, "error 22"),
         (36, "the name is too long"),
-        (40, "error 40"),
+        (40, "links that lead in a circle"),
+        (116, "error 116"),
     ] {
         let said = reason(&io::Error::from_raw_os_error(number));
         test(
@@ -483,4 +495,54 @@ fn deepest(said: &[String], entry: &str) -> usize {
         rest.split(':').next()?.parse().ok()
     };
     said.iter().filter_map(number).max().unwrap_or(0)
+}
+
+/// What stands beside them, in order, as its line begins where it is named by `./`.
+const ODD: &[&[u8]] = &[
+    b"./sound.bin",
+    b"./empty.bin",
+    b"./locked.bin",
+    b"./folder.bin",
+    b"./socket.bin",
+    b"./to-sound.bin",
+    b"./to-folder.bin",
+    b"./to-nowhere.bin",
+    b"./to-through.bin",
+    b"./to-circle.bin",
+    b"./to-circle-back.bin",
+    b"./to-too-long.bin",
+    b"./to-failing.bin",
+    b"./two  spaces .bin",
+    b"./new?line.bin",
+    b"./no text \x80\xc3(\xfe\xff.bin",
+    b"./control ????[7m??\xc2\x9b.bin",
+];
+
+fn odd_entries(tally: &mut Tally) {
+    let names: Vec<&[u8]> = odd::ENTRIES.iter().map(|(name, _)| *name).collect();
+    let lines = names.iter().map(|name| shown(&[b"./", *name].concat()));
+    tally.note("odd: names as shown", lines.eq(ODD.iter().copied()));
+    let found = |name: &&[u8]| {
+        let number = name[0].is_ascii_digit();
+        let one = names.iter().filter(|other| *other == name).count() == 1;
+        // `./*.bin` leaves out what begins with a point.
+        one && !number && name.ends_with(b".bin") && name[0] != b'.' && !name.contains(&b'/')
+    };
+    tally.note("odd: every name is found, once", names.iter().all(found));
+    for (name, there) in [
+        (&b"sound.bin"[..], true),
+        (b"folder.bin", true),
+        (b"to-circle.bin", true),
+        (b"to-circle-back.bin", true),
+        (b"nowhere", false),
+    ] {
+        let linked = |(_, what): &(&[u8], What)| matches!(what, What::Link(to) if *to == name);
+        let right = odd::ENTRIES.iter().any(linked) && names.contains(&name) == there;
+        let name = String::from_utf8_lossy(name);
+        tally.note(&format!("odd: a link to {name}"), right);
+    }
+    tally.note(
+        "odd: the sound file",
+        verdict(&odd::sound()) == "accepted, 1 events, 1 items, 1 actions, 1 messages, parts 0",
+    );
 }
