@@ -1,4 +1,2 @@
 -- Laws of a file read or saved whole, for the proofs of several functions.
-pub mod FaultSteps
-pub mod LookSteps
 pub mod SaveSteps

@@ -15,23 +15,21 @@ use borrow.Author.Tests.{ne-eqb}
 use borrow.Author.Needs.{needs}
 use Rattle.ascii.specs.Laying.{Laid}
 use Rattle.ascii.specs.Text.{bytesOf}
-use Rattle.ascii.specs.Words.{zeroDigit}
+use Rattle.ascii.specs.Words.{bytesBefore, zeroDigit}
 use Rattle.ascii.proofs.LayLaws.{laid-join}
 use Rattle.streams.proofs.CallSteps.{bits-say}
-use Rattle.disk.specs.declared.faults.Step.{Step}
-use Rattle.disk.specs.declared.faults.Step.the-variants as step
-use Rattle.disk.specs.declared.faults.Opened.{Opened}
-use Rattle.disk.specs.declared.faults.Opened.the-variants as opened
+use Rattle.links.specs.declared.faults.Step.{Step}
+use Rattle.links.specs.declared.faults.Step.the-variants as step
+use Rattle.links.specs.declared.faults.Opened.{Opened}
+use Rattle.links.specs.declared.faults.Opened.the-variants as opened
 use Rattle.disk.specs.declared.files.FileRead.{FileRead}
 use Rattle.streams.specs.declared.reading.Filled.{Filled}
-use Rattle.disk.specs.declared.saving.Saved.{Saved}
-use Rattle.disk.specs.declared.saving.Saved.the-variants as saved
-use Rattle.disk.specs.declared.looking.Way.{Way}
-use Rattle.disk.specs.declared.looking.Way.the-variants as way
-use Rattle.disk.specs.Looking.{longestPath, nameLong, barredLong}
-use Rattle.disk.specs.Faults.{reasonOf}
+use Rattle.disk.specs.declared.telling.Saved.{Saved}
+use Rattle.disk.specs.declared.telling.Saved.the-variants as saved
+use Rattle.links.specs.Paths.{longestPath}
+use Rattle.links.specs.Faults.{reasonOf}
 use Rattle.disk.specs.Files.{readOf, notRead, allRead, Told}
-use Rattle.disk.specs.Saving.{partName, IsPart, isTakenBy, isTaken, writtenBy, safeBy, renamedBy, notMadeLong}
+use Rattle.disk.specs.Saving.{partName, IsPart, isTakenBy, isTaken, madeBy, writtenBy, safeBy, renamedBy, settledFor, settledBy, notMadeLong, notMadeZero}
 
 -- ---- a file read
 
@@ -54,6 +52,14 @@ read-told most read e r p d = told-either (read .failed) most (read .count) e r 
 pub ruleset reads = (read-failed, read-done, read-told, needs)
 
 -- ---- which failure is told
+
+pub made-done : (s : Step) → s ≡ step.Done → saved.Whole ≡ madeBy s
+unfolding madeBy
+made-done s p = ap madeBy (sym p)
+
+pub made-failed : (s : Step) (e : ℤ) → s ≡ step.Failed e → saved.NotMade e ≡ madeBy s
+unfolding madeBy
+made-failed s e p = ap madeBy (sym p)
 
 pub written-done : (s : Step) → s ≡ step.Done → saved.Whole ≡ writtenBy s
 unfolding writtenBy
@@ -79,7 +85,28 @@ pub renamed-failed : (s : Step) (e : ℤ) → s ≡ step.Failed e → saved.NotR
 unfolding renamedBy
 renamed-failed s e p = ap renamedBy (sym p)
 
-pub ruleset telling = (written-done, written-failed, safe-done, safe-failed, renamed-done, renamed-failed, needs)
+pub ruleset telling = (made-done, made-failed, written-done, written-failed, safe-done, safe-failed, renamed-done, renamed-failed, needs)
+
+-- ---- the folder
+
+pub settled-done : (s : Step) → s ≡ step.Done → saved.Whole ≡ settledBy s
+unfolding settledBy
+settled-done s p = ap settledBy (sym p)
+
+pub settled-failed : (s : Step) (e : ℤ) (r : Saved) → SFits w32 e → s ≡ step.Failed e → r ≡ settledFor (toZ w32 (ofZ w32 e)) → r ≡ settledBy s
+unfolding settledBy
+settled-failed s e r f p d = (let h : r ≡ settledFor e = rw (← toZ-ofZ f) d in h) ∙ ap settledBy (sym p)
+
+pub settled-never : (e : ℤ) → SFits w32 e → ofZ w32 e ≡ 22 → saved.Whole ≡ settledFor e
+unfolding settledFor
+settled-never e f p = ap settledFor (bits-say w32 e 22 f p)
+
+pub settled-told : (e : ℤ) → (ofZ w32 e ≡ 22 → ⊥) → saved.NotSafe e ≡ settledFor e
+unfolding settledFor
+settled-told (pos n) p = rw (ne-eqb n 22 p)
+settled-told (negsuc n) p = refl
+
+pub ruleset settling = (settled-done, settled-failed, settled-never, settled-told, needs)
 
 -- ---- the other name
 
@@ -126,32 +153,19 @@ part-slice path name p =
 
 pub ruleset naming = (part-laid, part-made, part-end, part-slice, needs)
 
--- ---- a path that is longer than any
+-- ---- a path that is none
 
-unfoldable errorOf : Way → ℤ
-errorOf way.Beside = pos 0
-errorOf way.InPlace = pos 0
-errorOf (way.Barred e) = e
+module _ (path : List ℕ) (r : Saved) where
+  pub long-only : longestPath < length path → (length path ≤ longestPath → bytesBefore 0 path < length path → r ≡ notMadeZero)
+  long-only p q z = absurd (omega arith)
 
--- a way that is barred for its length has that error number, and the others have none
-long-error : (size : ℕ) (w : Way) → (longestPath < size → w ≡ barredLong) → longestPath < size → errorOf w ≡ pos nameLong
-unfolding errorOf
-long-error size w h p = ap errorOf (h p)
+  pub never-long : length path ≤ longestPath → (longestPath < length path → r ≡ notMadeLong)
+  never-long p q = absurd (omega arith)
 
-never : pos 0 ≡ pos nameLong → ⊥
-never e = let z : _≡_ {A = ℕ} 0 nameLong = ap natAbs e in omega arith
+  pub never-zero : (n : ℕ) → n ≡ bytesBefore 0 path → length path ≤ n → (length path ≤ longestPath → bytesBefore 0 path < length path → r ≡ notMadeZero)
+  never-zero n e p q z = absurd (omega arith)
 
-module _ (size : ℕ) (w : Way) (h : longestPath < size → w ≡ barredLong) where
-  pub long-beside : (r : Saved) → w ≡ way.Beside → (longestPath < size → r ≡ notMadeLong)
-  unfolding errorOf
-  long-beside r e p = absurd (never (sym (ap errorOf e) ∙ long-error size w h p))
+pub path-laid : (o path new : List ℕ) (r : ℕ) → Laid o 0 path new r → r ≡ length path
+path-laid o path new r laid = omega (arith, laid .stop)
 
-  pub long-in-place : (r : Saved) → w ≡ way.InPlace → (longestPath < size → r ≡ notMadeLong)
-  unfolding errorOf
-  long-in-place r e p = absurd (never (sym (ap errorOf e) ∙ long-error size w h p))
-
-  pub long-barred : (e : ℤ) → w ≡ way.Barred e → (longestPath < size → saved.NotMade e ≡ notMadeLong)
-  unfolding errorOf
-  long-barred x e p = ap saved.NotMade (sym (ap errorOf e) ∙ long-error size w h p)
-
-pub ruleset saves = (long-beside, long-in-place, long-barred, needs)
+pub ruleset saves = (long-only, never-long, never-zero, path-laid, needs)

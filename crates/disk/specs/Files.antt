@@ -3,7 +3,7 @@ use mathlib.Core.Path.{_≡_}
 use mathlib.Core.Bool.{cond}
 use Prim.Native.Nat.{ℕ}
 use lib.IntN.{ℤ, pos}
-use Rattle.disk.specs.Faults.{reasonOf}
+use Rattle.links.specs.Faults.{reasonOf}
 use Rattle.streams.specs.declared.reading.Filled.{Filled}
 use Rattle.disk.specs.declared.files.FileRead.{FileRead}
 

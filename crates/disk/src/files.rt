@@ -3,9 +3,9 @@ ghost use mathlib.Core.Path.{_≡_};
 ghost use Prim.Native.Nat.{_≤_};
 ghost use lib.ListN.{length};
 ghost use Rattle.disk.specs.Files.{readOf, Told};
-use crate::faults::Opened;
-use crate::faults::opening;
-use crate::faults::reason;
+use links::Opened;
+use links::opening;
+use links::reason;
 use streams::Filled;
 use streams::read_whole;
 

@@ -2,10 +2,9 @@
 pub use files::FileRead;
 pub use files::read_file;
 pub use files::read_input;
-pub use saving::Saved;
 pub use saving::save;
+pub use telling::Saved;
 
-mod faults;
 mod files;
-mod looking;
 mod saving;
+mod telling;

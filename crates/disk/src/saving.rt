@@ -1,80 +1,43 @@
 // A file written whole or not at all: it is made beside the path under another name, made safe, and renamed when it is whole. Where that fails, what was at the path stays and the other file is removed.
-// What is no regular file, such as a device or a pipe, is written in place and never renamed over. So is a symbolic link: /dev/stdout is one, and a rename would replace the link itself.
+// Behind a symbolic link the file that it leads to is saved so, and the link stays. What is no regular file, such as a device or a pipe, is written in place and never renamed over.
 ghost use mathlib.Core.Path.{_≡_};
 ghost use Prim.Native.Nat.{_+_, _<_, _≤_};
 ghost use lib.ListN.{length, take};
 ghost use Rattle.ascii.specs.Laying.{Laid};
-ghost use Rattle.disk.specs.Saving.{partName, suffixSize, lastDigit, IsPart, isTakenBy, isTaken, writtenBy, safeBy, renamedBy, bothOf, notMadeLong};
-ghost use Rattle.disk.specs.Looking.{longestPath};
-use crate::faults::Opened;
-use crate::faults::Step;
-use crate::faults::opening;
-use crate::faults::step_by;
-use crate::faults::step_if;
-use crate::looking::Way;
-use crate::looking::way_to;
+ghost use Rattle.ascii.specs.Words.{bytesBefore};
+ghost use Rattle.disk.specs.Saving.{partName, suffixSize, lastDigit, IsPart, isTakenBy, isTaken, notMadeLong, notMadeZero};
+ghost use Rattle.links.specs.Paths.{folderOf, longestPath};
+use crate::telling::Saved;
+use crate::telling::both;
+use crate::telling::made_by;
+use crate::telling::renamed_by;
+use crate::telling::safe_by;
+use crate::telling::settled_by;
+use crate::telling::written_by;
+use ascii::bytes_before;
 use ascii::put_byte;
 use ascii::put_bytes;
 use libc::PATH_MAX;
+use links::Mode;
+use links::Opened;
+use links::Way;
+use links::find;
+use links::folder_size;
+use links::opening;
+use links::step_by;
+use links::step_if;
 use streams::write_whole;
 
 // How many bytes the other name has more, and the longest path that has room for them.
 const SUFFIX: usize = 6;
 
-const MOST_PATH: usize = PATH_MAX - 1 - SUFFIX;
+const LAST: usize = PATH_MAX - 1;
+
+const MOST_PATH: usize = LAST - SUFFIX;
 
 const LAST_DIGIT: u8 = 9;
 
-// The file is whole; or the step that failed, with its error number.
-pub enum Saved {
-    Whole,
-    NotMade(i32),
-    NotWritten(i32),
-    NotSafe(i32),
-    NotRenamed(i32),
-}
-
-// ---- which failure is told
-
-fn written_by(s: Step) -> Saved
-    ensures { λ r. ⌜ r ≡ writtenBy s ⌝ }
-{
-    match s {
-        Step::Done => Saved::Whole,
-        Step::Failed(error) => Saved::NotWritten(error),
-    }
-}
-
-fn safe_by(s: Step) -> Saved
-    ensures { λ r. ⌜ r ≡ safeBy s ⌝ }
-{
-    match s {
-        Step::Done => Saved::Whole,
-        Step::Failed(error) => Saved::NotSafe(error),
-    }
-}
-
-fn renamed_by(s: Step) -> Saved
-    ensures { λ r. ⌜ r ≡ renamedBy s ⌝ }
-{
-    match s {
-        Step::Done => Saved::Whole,
-        Step::Failed(error) => Saved::NotRenamed(error),
-    }
-}
-
-// Of two steps, the first that failed is told.
-fn both(first: Saved, second: Saved) -> Saved
-    ensures { λ r. ⌜ r ≡ bothOf first second ⌝ }
-{
-    match first {
-        Saved::Whole => second,
-        Saved::NotMade(_) => first,
-        Saved::NotWritten(_) => first,
-        Saved::NotSafe(_) => first,
-        Saved::NotRenamed(_) => first,
-    }
-}
+const ZERO: u8 = 0;
 
 // ---- an open file
 
@@ -93,7 +56,25 @@ fn shut(fd: i32) -> Saved {
     safe_by(step_by(answer, os::errno()))
 }
 
-fn fill(fd: i32, bytes: &[u8]) -> Saved {
+fn change_mode(fd: i32, bits: u32) -> Saved {
+    let answer = libc::fchmod(fd, bits);
+    made_by(step_by(answer, os::errno()))
+}
+
+fn give(fd: i32, mode: Mode) -> Saved {
+    match mode {
+        Mode::AsMade => Saved::Whole,
+        Mode::Kept(bits) => change_mode(fd, bits),
+    }
+}
+
+// The permissions are given before the bytes, so that nobody reads these who might not read those that were there.
+fn fill(fd: i32, mode: Mode, bytes: &[u8]) -> Saved {
+    let given = give(fd, mode);
+    let Saved::Whole = given else {
+        shut(fd);
+        return given;
+    };
     let written = put(fd, bytes);
     let safe = make_safe(fd);
     let closed = shut(fd);
@@ -183,10 +164,45 @@ fn rename(path: &[u8], part: &[u8], filled: Saved) -> Saved
     both(filled, renamed_by(step_by(answer, os::errno())))
 }
 
-fn replace(path: &[u8], part: &[u8], fd: i32, bytes: &[u8]) -> Saved
+// Opens the path's folder.
+fn open_folder(path: &[u8], folder: &[u8]) -> Opened
+    requires { ⌜ now folder ≡ folderOf (now path) ⌝ }
+{
+    let fd = os::open_read(folder);
+    opening(fd, os::errno())
+}
+
+fn open_folder_of(path: &[u8]) -> Opened {
+    let from = 0;
+    let end = folder_size(path);
+    if end == 0 {
+        return open_folder(path, b".");
+    }
+    open_folder(path, &path[from..end])
+}
+
+fn sync_folder(fd: i32) -> Saved {
+    let answer = libc::fsync(fd);
+    let settled = settled_by(step_by(answer, os::errno()));
+    libc::close(fd);
+    settled
+}
+
+// Makes the rename safe. A folder that may not be read can't be: the file in it is whole all the same.
+fn settle(path: &[u8], renamed: Saved) -> Saved
+    requires { ⌜ renamed ≡ Saved.Whole ⌝ }
+{
+    let o = open_folder_of(path);
+    match o {
+        Opened::Failed(_) => renamed,
+        Opened::At(fd) => both(renamed, sync_folder(fd)),
+    }
+}
+
+fn replace(path: &[u8], part: &[u8], fd: i32, mode: Mode, bytes: &[u8]) -> Saved
     requires { ⌜ IsPart (now path) (now part) ⌝ }
 {
-    let filled = fill(fd, bytes);
+    let filled = fill(fd, mode, bytes);
     let Saved::Whole = filled else {
         remove(path, part);
         return filled;
@@ -196,10 +212,10 @@ fn replace(path: &[u8], part: &[u8], fd: i32, bytes: &[u8]) -> Saved
         remove(path, part);
         return renamed;
     };
-    renamed
+    settle(path, renamed)
 }
 
-fn save_beside(path: &[u8], bytes: &[u8]) -> Saved {
+fn save_beside(path: &[u8], mode: Mode, bytes: &[u8]) -> Saved {
     if MOST_PATH < path.len() {
         return Saved::NotMade(libc::ENAMETOOLONG);
     }
@@ -209,7 +225,7 @@ fn save_beside(path: &[u8], bytes: &[u8]) -> Saved {
     let o = make_part(path, &mut name);
     match o {
         Opened::Failed(error) => Saved::NotMade(error),
-        Opened::At(fd) => replace(path, &name[from..end], fd, bytes),
+        Opened::At(fd) => replace(path, &name[from..end], fd, mode, bytes),
     }
 }
 
@@ -234,14 +250,34 @@ fn save_in_place(path: &[u8], bytes: &[u8]) -> Saved {
     }
 }
 
-// Saves the bytes as the file at this path.
-pub fn save(path: &[u8], bytes: &[u8]) -> Saved
-    ensures { λ r. ⌜ (longestPath < length (now (path .entry)) → r ≡ notMadeLong) ⌝ }
-{
-    let way = way_to(path);
+// ---- the path that is reached
+
+fn save_at(place: &[u8], way: Way, bytes: &[u8]) -> Saved {
     match way {
-        Way::Beside => save_beside(path, bytes),
-        Way::InPlace => save_in_place(path, bytes),
+        Way::Beside(mode) => save_beside(place, mode, bytes),
+        Way::InPlace => save_in_place(place, bytes),
         Way::Barred(error) => Saved::NotMade(error),
     }
+}
+
+// Saves the bytes as the file that this path leads to.
+pub fn save(path: &[u8], bytes: &[u8]) -> Saved
+    ensures { λ r. ⌜ (longestPath < length (now (path .entry)) → r ≡ notMadeLong) ⌝ }
+    ensures { λ r. ⌜
+        (length (now (path .entry)) ≤ longestPath → bytesBefore 0 (now (path .entry)) < length (now (path .entry)) → r ≡ notMadeZero)
+        ⌝ }
+{
+    if LAST < path.len() {
+        return Saved::NotMade(libc::ENAMETOOLONG);
+    }
+    if bytes_before(ZERO, path) < path.len() {
+        return Saved::NotMade(libc::EINVAL);
+    }
+    let mut place = [0u8; PATH_MAX];
+    let size = put_bytes(&mut place, 0, path);
+    let found = find(&mut place, size);
+    let from = 0;
+    let end = found.size;
+    let way = found.way;
+    save_at(&place[from..end], way, bytes)
 }
