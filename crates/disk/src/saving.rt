@@ -23,6 +23,7 @@ use links::Opened;
 use links::Way;
 use links::find;
 use links::folder_size;
+use links::has_permissions;
 use links::opening;
 use links::step_by;
 use links::step_if;
@@ -56,21 +57,29 @@ fn shut(fd: i32) -> Saved {
     safe_by(step_by(answer, os::errno()))
 }
 
-fn change_mode(fd: i32, bits: u32) -> Saved {
+// Some file systems know one mode for all files and let nobody change it: there the file has it all the same.
+fn change_mode(part: &[u8], fd: i32, bits: u32) -> Saved {
     let answer = libc::fchmod(fd, bits);
-    made_by(step_by(answer, os::errno()))
+    let changed = made_by(step_by(answer, os::errno()));
+    let Saved::Whole = changed else {
+        if has_permissions(part, bits) {
+            return Saved::Whole;
+        }
+        return changed;
+    };
+    changed
 }
 
-fn give(fd: i32, mode: Mode) -> Saved {
+fn give(part: &[u8], fd: i32, mode: Mode) -> Saved {
     match mode {
         Mode::AsMade => Saved::Whole,
-        Mode::Kept(bits) => change_mode(fd, bits),
+        Mode::Kept(bits) => change_mode(part, fd, bits),
     }
 }
 
 // The permissions are given before the bytes, so that nobody reads these who might not read those that were there.
-fn fill(fd: i32, mode: Mode, bytes: &[u8]) -> Saved {
-    let given = give(fd, mode);
+fn fill(part: &[u8], fd: i32, mode: Mode, bytes: &[u8]) -> Saved {
+    let given = give(part, fd, mode);
     let Saved::Whole = given else {
         shut(fd);
         return given;
@@ -202,7 +211,7 @@ fn settle(path: &[u8], renamed: Saved) -> Saved
 fn replace(path: &[u8], part: &[u8], fd: i32, mode: Mode, bytes: &[u8]) -> Saved
     requires { ⌜ IsPart (now path) (now part) ⌝ }
 {
-    let filled = fill(fd, mode, bytes);
+    let filled = fill(part, fd, mode, bytes);
     let Saved::Whole = filled else {
         remove(path, part);
         return filled;

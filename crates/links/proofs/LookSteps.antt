@@ -23,7 +23,7 @@ use Rattle.links.specs.declared.looking.Mode.the-variants as mode
 use Rattle.links.specs.declared.looking.Way.{Way}
 use Rattle.links.specs.declared.looking.Way.the-variants as way
 use Rattle.links.specs.Faults.{reasonOf}
-use Rattle.links.specs.Looking.{kindOf, unseenBy, foundOf, wayOf, unseenLong}
+use Rattle.links.specs.Looking.{kindOf, unseenBy, foundOf, wayOf, hasBits, unseenLong}
 use Rattle.links.specs.Paths.{longestPath}
 
 -- ---- a path with zeros behind it
@@ -99,6 +99,16 @@ pub barred-unseen : (k : Kind) (e : ℤ) → k ≡ kind.Unseen e → way.Barred 
 barred-unseen k e p = ap wayOf (sym p)
 
 pub ruleset ways = (way-missing, way-regular, barred-folder, barred-unseen, needs)
+
+-- ---- permissions
+
+pub bits-of : (k : Kind) (own bits : ℕ) (b : Bool) → k ≡ kind.Regular own → b ≡ eqb own bits → b ≡ hasBits k bits
+bits-of k own bits b p e = e ∙ ap (λ (z : Kind). hasBits z bits) (sym p)
+
+pub bits-long : (size bits : ℕ) (k : Kind) (b : Bool) → (longestPath < size → k ≡ unseenLong) → b ≡ hasBits k bits → (longestPath < size → b ≡ false)
+bits-long size bits k b h e p = e ∙ ap (λ (z : Kind). hasBits z bits) (h p)
+
+pub ruleset permissions = (bits-of, bits-long, needs)
 
 -- ---- a path that is longer than any
 

@@ -60,6 +60,15 @@ wayOf kind.Link = way.InPlace
 wayOf kind.Other = way.InPlace
 wayOf (kind.Unseen error) = way.Barred error
 
+-- Whether it is a regular file with these permissions.
+abbrev pub hasBits : Kind → (bits : ℕ) → Bool
+hasBits kind.Missing bits = false
+hasBits (kind.Regular own) bits = eqb own bits
+hasBits kind.Folder bits = false
+hasBits kind.Link bits = false
+hasBits kind.Other bits = false
+hasBits (kind.Unseen error) bits = false
+
 -- What is told of a path that is longer than any.
 abbrev pub unseenLong : Kind
 unseenLong = kind.Unseen (pos nameLong)

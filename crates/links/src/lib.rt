@@ -9,6 +9,7 @@ pub use following::Found;
 pub use following::find;
 pub use looking::Mode;
 pub use looking::Way;
+pub use looking::has_permissions;
 pub use paths::folder_size;
 
 mod faults;

@@ -1,9 +1,10 @@
 // What stands at a path, and which way a file is saved there.
 ghost use mathlib.Core.Path.{_≡_};
+ghost use mathlib.Core.Bool.{false};
 ghost use Prim.Native.Nat.{_<_, _≤_};
 ghost use lib.ListN.{length, take};
 ghost use Rattle.libc.specs.Io.{Ended};
-ghost use Rattle.links.specs.Looking.{kindOf, foundOf, wayOf, unseenLong};
+ghost use Rattle.links.specs.Looking.{kindOf, foundOf, wayOf, hasBits, unseenLong};
 ghost use Rattle.links.specs.Paths.{longestPath};
 use crate::faults::reason;
 use libc::PATH_MAX;
@@ -142,4 +143,24 @@ pub fn way_by(kind: Kind) -> Way
         Kind::Other => Way::InPlace,
         Kind::Unseen(error) => Way::Barred(error),
     }
+}
+
+fn has_bits(kind: Kind, bits: u32) -> bool
+    ensures { λ r. ⌜ r ≡ hasBits kind bits ⌝ }
+{
+    match kind {
+        Kind::Missing => false,
+        Kind::Regular(own) => own == bits,
+        Kind::Folder => false,
+        Kind::Link => false,
+        Kind::Other => false,
+        Kind::Unseen(_) => false,
+    }
+}
+
+// Whether a regular file with these permissions stands at the path.
+pub fn has_permissions(path: &[u8], bits: u32) -> bool
+    ensures { λ r. ⌜ (longestPath < length (now (path .entry)) → r ≡ false) ⌝ }
+{
+    has_bits(look(path), bits)
 }
