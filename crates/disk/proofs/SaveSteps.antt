@@ -24,8 +24,8 @@ use Rattle.links.specs.declared.faults.Opened.{Opened}
 use Rattle.links.specs.declared.faults.Opened.the-variants as opened
 use Rattle.disk.specs.declared.files.FileRead.{FileRead}
 use Rattle.streams.specs.declared.reading.Filled.{Filled}
-use Rattle.disk.specs.declared.telling.Saved.{Saved}
-use Rattle.disk.specs.declared.telling.Saved.the-variants as saved
+use Rattle.disk.specs.declared.failures.Saved.{Saved}
+use Rattle.disk.specs.declared.failures.Saved.the-variants as saved
 use Rattle.links.specs.Paths.{longestPath}
 use Rattle.links.specs.Faults.{reasonOf}
 use Rattle.disk.specs.Files.{readOf, notRead, allRead, Told}
@@ -85,7 +85,7 @@ pub renamed-failed : (s : Step) (e : ℤ) → s ≡ step.Failed e → saved.NotR
 unfolding renamedBy
 renamed-failed s e p = ap renamedBy (sym p)
 
-pub ruleset telling = (made-done, made-failed, written-done, written-failed, safe-done, safe-failed, renamed-done, renamed-failed, needs)
+pub ruleset failing = (made-done, made-failed, written-done, written-failed, safe-done, safe-failed, renamed-done, renamed-failed, needs)
 
 -- ---- the folder
 

@@ -12,8 +12,8 @@ use Rattle.links.specs.declared.faults.Step.the-variants as step
 use Rattle.links.specs.declared.faults.Opened.{Opened}
 use Rattle.links.specs.declared.faults.Opened.the-variants as opened
 use Rattle.links.specs.Paths.{nameLong}
-use Rattle.disk.specs.declared.telling.Saved.{Saved}
-use Rattle.disk.specs.declared.telling.Saved.the-variants as saved
+use Rattle.disk.specs.declared.failures.Saved.{Saved}
+use Rattle.disk.specs.declared.failures.Saved.the-variants as saved
 
 -- ---- the other name
 

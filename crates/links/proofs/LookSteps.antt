@@ -38,7 +38,7 @@ pub ruleset ending-path = (ended-front, needs)
 
 -- ---- a mode
 
-pub kind-regular : (mode : ℕ) → bitAnd mode 61440 ≡ 32768 → kind.Regular (bitAnd mode 4095) ≡ kindOf mode
+pub kind-regular : (mode : ℕ) → bitAnd mode 61440 ≡ 32768 → kind.Regular (bitAnd mode 511) ≡ kindOf mode
 unfolding kindOf
 kind-regular mode p = rw (eq-eqb (bitAnd mode 61440) 32768 p)
 

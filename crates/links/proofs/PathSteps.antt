@@ -14,7 +14,7 @@ use Rattle.ascii.specs.Laying.{Laid}
 use Rattle.ascii.specs.Text.{bytesOf}
 use Rattle.ascii.specs.Words.{begins}
 use Rattle.links.specs.declared.paths.Next.the-variants as next
-use Rattle.links.specs.Paths.{upToSlash, folderSize, named, folderOf, keptSize, nextPath, goneTo, Gone, isSystems}
+use Rattle.links.specs.Paths.{upToSlash, folderSize, orHere, folderOf, keptSize, nextPath, goneTo, Gone, isSystems}
 
 -- ---- the last slash
 
@@ -44,20 +44,20 @@ pub ruleset slashes = (slash-last, slash-before, slash-none, needs)
 -- ---- the folder
 
 pub folder-here : (path : List ℕ) (n : ℕ) → n ≡ folderSize path → n ≡ 0 → bytesOf "." ≡ folderOf path
-unfolding folderOf named
+unfolding folderOf orHere
 folder-here path n e p = let z : folderSize path ≡ 0 = omega arith in rw z
 
-named-some : (bs : List ℕ) → 0 < length bs → bs ≡ named bs
-unfolding named
-named-some [] p = absurd (omega arith)
-named-some (b ∷ bs) p = refl
+here-some : (bs : List ℕ) → 0 < length bs → bs ≡ orHere bs
+unfolding orHere
+here-some [] p = absurd (omega arith)
+here-some (b ∷ bs) p = refl
 
 pub folder-named : (path : List ℕ) (n : ℕ) → n ≡ folderSize path → n ≤ length path → (n ≡ 0 → ⊥) → take (n - 0) path ≡ folderOf path
 unfolding folderOf
 folder-named path n e l p =
     let z : n - 0 ≡ n = omega arith in
     let s : length (take n path) ≡ n = length-take-le n path l in
-    rw (z, ← e) (named-some (take n path) (omega arith))
+    rw (z, ← e) (here-some (take n path) (omega arith))
 
 pub ruleset folders = (folder-here, folder-named, needs)
 

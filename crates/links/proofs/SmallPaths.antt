@@ -4,7 +4,7 @@ use mathlib.Core.Path.{_≡_, refl}
 use Rattle.base.specs.Tests.{pick}
 use Rattle.ascii.specs.Text.{bytesOf}
 use Rattle.ascii.specs.Words.{begins}
-use Rattle.links.specs.Paths.{upToSlash, named, folderOf, keptSize, nextPath}
+use Rattle.links.specs.Paths.{upToSlash, orHere, folderOf, keptSize, nextPath}
 
 pub record Folders : Type 0 where
   pub alone : folderOf (bytesOf "file") ≡ bytesOf "."
@@ -13,7 +13,7 @@ pub record Folders : Type 0 where
   pub empty : folderOf (bytesOf "") ≡ bytesOf "."
 
 pub folders-right : Folders
-unfolding folderOf named upToSlash
+unfolding folderOf orHere upToSlash
 folders-right = record { alone = refl; top = refl; below = refl; empty = refl }
 
 pub record Leads : Type 0 where

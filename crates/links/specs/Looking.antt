@@ -25,9 +25,9 @@ folderBits = 16384
 abbrev pub linkBits : ℕ
 linkBits = 40960
 
--- The bits that tell who may read, write and run a file.
+-- The bits that tell who may read, write and run a file; not those that let it run as its owner.
 abbrev pub permissionBits : ℕ
-permissionBits = 4095
+permissionBits = 511
 
 unfoldable pub kindOf : (mode : ℕ) → Kind
 kindOf mode =

@@ -35,13 +35,13 @@ abbrev pub folderSize : (path : List ℕ) → ℕ
 folderSize path = upToSlash (length path) path
 
 -- Where no bytes name a folder, it is the one that the program stands in.
-unfoldable pub named : List ℕ → List ℕ
-named [] = bytesOf "."
-named (b ∷ bs) = b ∷ bs
+unfoldable pub orHere : List ℕ → List ℕ
+orHere [] = bytesOf "."
+orHere (b ∷ bs) = b ∷ bs
 
 -- The folder of a path: the path up to its last slash.
 unfoldable pub folderOf : (path : List ℕ) → List ℕ
-folderOf path = named (take (folderSize path) path)
+folderOf path = orHere (take (folderSize path) path)
 
 -- ---- where a link leads
 

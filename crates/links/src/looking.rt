@@ -13,8 +13,8 @@ use libc::types::timespec;
 
 const LAST: usize = PATH_MAX - 1;
 
-// The bits of a mode that tell who may read, write and run a file.
-const PERMISSIONS: u32 = 0o7777;
+// The bits of a mode that tell who may read, write and run a file. Those that let it run as its owner are not among them: the new file may have another.
+const PERMISSIONS: u32 = 0o777;
 
 // Nothing stands there, or a regular file with these permissions, a folder, a link or something else; or the system does not say what, with the reason's number.
 pub enum Kind {
