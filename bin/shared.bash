@@ -6,6 +6,10 @@ name=bin/${self##*/}
 # A caller's POSIXLY_CORRECT would have a script end where a file can't be opened, before it has said so.
 set +o posix
 
+# What fails in a script itself is no refusal.
+set -o errtrace
+trap 'exit 2' ERR
+
 # A standard descriptor that the caller closed is opened the wrong way round: it fails as a closed one does, and no other file slips into its place.
 # Standard error is /dev/null then: who closes it wants no words.
 true 9>&2 || exec 2>/dev/null

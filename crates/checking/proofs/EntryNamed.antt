@@ -18,7 +18,7 @@ use Rattle.contents.specs.Limits.{contentsSize, eventSize, itemSize, messageSiz
 use Rattle.contents.specs.Contents.{countsOf, offsetsOf, countsRight, offsetsRight, eventsAt, itemsAt, messagesAt}
 use Rattle.contents.specs.Replies.{faultRow}
 use Rattle.items.specs.declared.Setting.{Setting}
-use Rattle.items.specs.Items.{itemRight, itemsRight}
+use Rattle.items.specs.Items.{itemRight, outset, itemsRight}
 use Rattle.items.specs.Ranged.{blank}
 use Rattle.messages.specs.Messages.{messageRight, messagesRight}
 use Rattle.score.specs.Events.{eventsRight}
@@ -31,7 +31,7 @@ use Rattle.refusals.specs.declared.entries.Entry.{Entry}
 use Rattle.refusals.specs.declared.entries.Entry.the-variants.{Nowhere, Contents, Event, Item, Message}
 use Rattle.wording.specs.Words.{faultPlaced, placed}
 use Rattle.refusals.specs.Entries.{entryAt, entryOf}
-use Rattle.checking.proofs.FaultPlaces.{fault-of, no-fault, need-fault, event-fault, item-fault, message-fault}
+use Rattle.checking.proofs.FaultPlaces.{Standing, textTo, fault-of, no-fault, need-fault, event-fault, item-fault, message-fault}
 
 -- Which entry is told of which fault, row by row. There is no row for NoMessage: the file check never finds it.
 pub data Named (f : List ℕ) : Fault → Entry → Type 0 where
@@ -48,11 +48,13 @@ pub data Named (f : List ℕ) : Fault → Entry → Type 0 where
   -- Its duration is wrong, and those before it are right.
   event : (k : ℕ) → k < countsOf f .events → between 1 longest (getD (decode f .durations) k 0) ≡ false
       → ((j : ℕ) → j < k → between 1 longest (getD (decode f .durations) j 0) ≡ true) → Named f (BadEvent (eventsAt + eventSize * k)) (Event (1 + k))
-  -- The item is wrong where it stands: in this setting, with so many items left and so many actions before it.
-  item : (p : ℕ) → p < countsOf f .items → (h : Setting) (left actions : ℕ) → itemRight (getD (decode f .items) p blank) (countsOf f) h left actions ≡ false
-      → Named f (BadItem (itemsAt (countsOf f) + itemSize * p)) (Item p)
-  -- The entry or its label is wrong, where the text of the one before it ends at this byte.
-  message : (n : ℕ) → n < countsOf f .messages → (from : ℕ) → messageRight f (countsOf f) (messagesAt (countsOf f) + messageSize * n) from ≡ false
+  -- It is wrong where it stands, and those before it are right.
+  item : (p : ℕ) → p < countsOf f .items → (h : Setting) (left actions : ℕ) → Standing (countsOf f) (decode f .items) outset 0 p h left actions
+      → itemRight (getD (decode f .items) p blank) (countsOf f) h left actions ≡ false → Named f (BadItem (itemsAt (countsOf f) + itemSize * p)) (Item p)
+  -- The entry or its label is wrong, where the text of those before it ends, and they are right.
+  message : (n : ℕ) → n < countsOf f .messages
+      → messageRight f (countsOf f) (messagesAt (countsOf f) + messageSize * n) (textTo f (messagesAt (countsOf f)) n 0) ≡ false
+      → ((j : ℕ) → j < n → messageRight f (countsOf f) (messagesAt (countsOf f) + messageSize * j) (textTo f (messagesAt (countsOf f)) j 0) ≡ true)
       → Named f (BadMessage (messagesAt (countsOf f) + messageSize * n)) (Message n)
   text-left : Named f TextLeft (Contents 6)
 
@@ -112,13 +114,13 @@ module _ (f : List ℕ) (x : Fault) (long : leb contentsSize (length f) ≡ true
   items-named e =
       let h = item-fault (countsOf f) (decode f .items) x e in
       let b : h .p < countsOf f .items = omega (arith, h .below, items-decoded f) in
-      rw (h .place, long, item-at (countsOf f) (h .p) b) (item (h .p) b (h .setting) (h .left) (h .actions) (h .wrong))
+      rw (h .place, long, item-at (countsOf f) (h .p) b) (item (h .p) b (h .setting) (h .left) (h .actions) (h .stands) (h .wrong))
 
   messages-named : messagesRight f (countsOf f) (messagesAt (countsOf f)) (countsOf f .messages) 0 ≡ refused x → Goal
   unfolding entryOf entryAt placed faultPlaced refusalRow faultRow pick
   messages-named e =
       message-fault f (countsOf f) (messagesAt (countsOf f)) (countsOf f .messages) 0 x Goal e
-      (λ h. rw (h .place, long, message-at (countsOf f) (h .n) (h .below)) (message (h .n) (h .below) (h .from) (h .wrong)))
+      (λ h. rw (h .place, long, message-at (countsOf f) (h .n) (h .below)) (message (h .n) (h .below) (h .wrong) (h .before-right)))
       (λ h. rw (h, long) text-left)
 
   bodies-named : bodiesRight f (countsOf f) ≡ refused x → Goal
@@ -154,6 +156,6 @@ never-no-message f e = go (entry-named f NoMessage e) refl where
   go text-offset q = let z : _≡_ {A = ℕ} 0 1 = cc in omega arith
   go file-length q = let z : _≡_ {A = ℕ} 0 1 = cc in omega arith
   go (event k b w r) q = let z : _≡_ {A = ℕ} 0 1 = cc in omega arith
-  go (item p b h l n w) q = let z : _≡_ {A = ℕ} 0 1 = cc in omega arith
+  go (item p b h l n s w) q = let z : _≡_ {A = ℕ} 0 1 = cc in omega arith
   go (message n b m w) q = let z : _≡_ {A = ℕ} 0 1 = cc in omega arith
   go text-left q = let z : _≡_ {A = ℕ} 0 1 = cc in omega arith

@@ -5,7 +5,7 @@ use mathlib.Core.Bool.{Bool, true, false}
 use mathlib.Core.List.{List, [], _∷_}
 use Prim.Native.Nat.{ℕ, zero, suc, _+_, _*_, _<_, _≤_}
 use native.Mathlib.Omega.{arith}
-use lib.ListN.{length, getD, take, drop, length-drop}
+use lib.ListN.{length, getD, take, drop, length-take, length-drop}
 use lib.Seq.{getD-take, getD-drop, length-take-le}
 use Rattle.page.specs.declared.Item.{Item}
 use Rattle.base.specs.Tests.{pick, between}
@@ -87,117 +87,165 @@ event-fault at (d ∷ ds) x e =
 
 -- ---- the items
 
+-- How the item at page place p stands in the walk of these items, which begins with a setting and so many actions: with which setting, how many items left and how many actions
+-- before it. Those before it are right.
+pub data Standing (c : Counts) : (is : List Item) (h : Setting) (n p : ℕ) (h′ : Setting) (left n′ : ℕ) → Type 0 where
+  here : {i : Item} {is : List Item} {h : Setting} {n : ℕ} → Standing c (i ∷ is) h n 0 h (length is) n
+  within : {i : Item} {is : List Item} {h h′ : Setting} {n p left n′ : ℕ} → itemRight i c h (length is) n ≡ true
+      → Standing c (take (withinOf i) is) (inside i h) (n + ownOf i) p h′ left n′ → Standing c (i ∷ is) h n (suc p) h′ left n′
+  after : {i : Item} {is : List Item} {h h′ : Setting} {n p left n′ : ℕ} → itemRight i c h (length is) n ≡ true
+      → (b at m : ℕ) → length (take (withinOf i) is) ≤ b → walkOf b c at (take (withinOf i) is) (inside i h) (n + ownOf i) ≡ Actions m
+      → Standing c (drop (withinOf i) is) (next i h) m p h′ left n′ → Standing c (i ∷ is) h n (suc (withinOf i + p)) h′ left n′
+
 -- The item at this page place is wrong where it stands.
-pub record ItemFault (c : Counts) (at : ℕ) (is : List Item) (x : Fault) : Type 0 where
+pub record ItemFault (c : Counts) (at : ℕ) (is : List Item) (h : Setting) (n : ℕ) (x : Fault) : Type 0 where
   pub p : ℕ
   pub below : p < length is
   pub place : x ≡ BadItem (at + itemSize * p)
   pub setting : Setting
   pub left : ℕ
   pub actions : ℕ
+  pub stands : Standing c is h n p setting left actions
   pub wrong : itemRight (getD is p blank) c setting left actions ≡ false
 
-module _ (c : Counts) (at : ℕ) (i : Item) (is : List Item) (x : Fault) where
-  item-here : (h : Setting) (n : ℕ) → itemRight i c h (length is) n ≡ false → Stop (BadItem at) ≡ Stop x → ItemFault c at (i ∷ is) x
-  item-here h n wrong e =
+module _ (c : Counts) (at : ℕ) (i : Item) (is : List Item) (h : Setting) (n : ℕ) (x : Fault) where
+  item-here : itemRight i c h (length is) n ≡ false → Stop (BadItem at) ≡ Stop x → ItemFault c at (i ∷ is) h n x
+  item-here wrong e =
       let q : x ≡ BadItem at = cc in
       let s : at ≡ at + itemSize * 0 = omega arith in
-      record { p = 0; below = omega arith; place = q ∙ ap BadItem s; setting = h; left = length is; actions = n; wrong = wrong }
+      record { p = 0; below = omega arith; place = q ∙ ap BadItem s; setting = h; left = length is; actions = n; stands = here; wrong = wrong }
 
-  item-within : (k : ℕ) → k ≤ length is → ItemFault c (at + itemSize) (take k is) x → ItemFault c at (i ∷ is) x
-  item-within k l h =
-      let s : at + itemSize + itemSize * h .p ≡ at + itemSize * suc (h .p) = omega arith in
-      let b : h .p < k = omega (arith, h .below, length-take-le k is l) in
-      record {
-        p = suc (h .p);
-        below = omega arith;
-        place = h .place ∙ ap BadItem s;
-        setting = h .setting;
-        left = h .left;
-        actions = h .actions;
-        wrong = rw (← getD-take k is (h .p) blank b) (h .wrong);
-      }
+  module _ (right : itemRight i c h (length is) n ≡ true) where
+    item-within : withinOf i ≤ length is → ItemFault c (at + itemSize) (take (withinOf i) is) (inside i h) (n + ownOf i) x → ItemFault c at (i ∷ is) h n x
+    item-within l f =
+        let s : at + itemSize + itemSize * f .p ≡ at + itemSize * suc (f .p) = omega arith in
+        let b : f .p < withinOf i = omega (arith, f .below, length-take-le (withinOf i) is l) in
+        record {
+          p = suc (f .p);
+          below = omega arith;
+          place = f .place ∙ ap BadItem s;
+          setting = f .setting;
+          left = f .left;
+          actions = f .actions;
+          stands = within right (f .stands);
+          wrong = rw (← getD-take (withinOf i) is (f .p) blank b) (f .wrong);
+        }
 
-  item-after : (k : ℕ) → ItemFault c (at + itemSize + itemSize * k) (drop k is) x → ItemFault c at (i ∷ is) x
-  item-after k h =
-      let s : at + itemSize + itemSize * k + itemSize * h .p ≡ at + itemSize * suc (k + h .p) = omega arith in
-      record {
-        p = suc (k + h .p);
-        below = omega (arith, h .below, length-drop k is);
-        place = h .place ∙ ap BadItem s;
-        setting = h .setting;
-        left = h .left;
-        actions = h .actions;
-        wrong = rw (← getD-drop k is (h .p) blank) (h .wrong);
-      }
+    item-after : (b at′ m : ℕ) → length (take (withinOf i) is) ≤ b → walkOf b c at′ (take (withinOf i) is) (inside i h) (n + ownOf i) ≡ Actions m
+        → ItemFault c (at + itemSize + itemSize * withinOf i) (drop (withinOf i) is) (next i h) m x → ItemFault c at (i ∷ is) h n x
+    item-after b at′ m k w f =
+        let s : at + itemSize + itemSize * withinOf i + itemSize * f .p ≡ at + itemSize * suc (withinOf i + f .p) = omega arith in
+        record {
+          p = suc (withinOf i + f .p);
+          below = omega (arith, f .below, length-drop (withinOf i) is);
+          place = f .place ∙ ap BadItem s;
+          setting = f .setting;
+          left = f .left;
+          actions = f .actions;
+          stands = after right b at′ m k w (f .stands);
+          wrong = rw (← getD-drop (withinOf i) is (f .p) blank) (f .wrong);
+        }
 
 -- a walk in two parts that stops does so in the first, or in the second from where the first ended
-onward-stopped : (w : Walk) (on : ℕ → Walk) (x : Fault) (P : Type 0) → onward w on ≡ Stop x → (w ≡ Stop x → P) → ((m : ℕ) → on m ≡ Stop x → P) → P
+onward-stopped : (w : Walk) (on : ℕ → Walk) (x : Fault) (P : Type 0) → onward w on ≡ Stop x → (w ≡ Stop x → P) → ((m : ℕ) → w ≡ Actions m → on m ≡ Stop x → P) → P
 unfolding onward
-onward-stopped (Actions m) on x P e first second = second m e
+onward-stopped (Actions m) on x P e first second = second m refl e
 onward-stopped (Stop y) on x P e first second = first e
 
 -- one item of the walk, with what holds of those within it and after it
-module _ (b : ℕ) (c : Counts) (at : ℕ) (i : Item) (is : List Item) (x : Fault) (found : (at′ : ℕ) (is′ : List Item) (h : Setting) (n : ℕ) → walkOf b c at′ is′ h n ≡ Stop x → ItemFault c at′ is′ x) where
+module _ (b : ℕ) (c : Counts) (at : ℕ) (i : Item) (is : List Item) (x : Fault) (fits : length is ≤ b)
+    (found : (at′ : ℕ) (is′ : List Item) (h : Setting) (n : ℕ) → length is′ ≤ b → walkOf b c at′ is′ h n ≡ Stop x → ItemFault c at′ is′ h n x) where
+  taken-fits : (k : ℕ) → length (take k is) ≤ b
+  taken-fits k = omega (arith, length-take k is)
+
+  dropped-fits : (k : ℕ) → length (drop k is) ≤ b
+  dropped-fits k = omega (arith, length-drop k is)
+
   item-step : (h : Setting) (n : ℕ) (t : Bool) → itemRight i c h (length is) n ≡ t
       → pick t
       (onward (walkOf b c (at + itemSize) (take (withinOf i) is) (inside i h) (n + ownOf i))
       (λ m. walkOf b c (at + itemSize + itemSize * withinOf i) (drop (withinOf i) is) (next i h) m))
       (Stop (BadItem at))
       ≡ Stop x
-      → ItemFault c at (i ∷ is) x
+      → ItemFault c at (i ∷ is) h n x
   unfolding pick
-  item-step h n false wrong q = item-here c at i is x h n wrong q
+  item-step h n false wrong q = item-here c at i is h n x wrong q
   item-step h n true right q =
       onward-stopped _ _ x _ q
-      (λ s. item-within c at i is x (withinOf i) (within-left (right-item i c h (length is) n right)) (found _ _ _ _ s))
-      (λ m s. item-after c at i is x (withinOf i) (found _ _ _ _ s))
+      (λ s. item-within c at i is h n x right (within-left (right-item i c h (length is) n right)) (found _ _ _ _ (taken-fits (withinOf i)) s))
+      (λ m w s. item-after c at i is h n x right b _ m (taken-fits (withinOf i)) w (found _ _ _ _ (dropped-fits (withinOf i)) s))
 
-walk-fault : (b : ℕ) (c : Counts) (at : ℕ) (is : List Item) (h : Setting) (n : ℕ) (x : Fault) → walkOf b c at is h n ≡ Stop x → ItemFault c at is x
+walk-fault : (b : ℕ) (c : Counts) (at : ℕ) (is : List Item) (h : Setting) (n : ℕ) (x : Fault) → length is ≤ b → walkOf b c at is h n ≡ Stop x → ItemFault c at is h n x
 unfolding walkOf pick
-walk-fault zero c at is h n x e = let z : _≡_ {A = ℕ} 0 1 = cc in absurd (omega arith)
-walk-fault (suc b) c at [] h n x e = let z : _≡_ {A = ℕ} 0 1 = cc in absurd (omega arith)
-walk-fault (suc b) c at (i ∷ is) h n x e =
-    item-step b c at i is x (λ at′ is′ h′ n′ q. walk-fault b c at′ is′ h′ n′ x q) h n (itemRight i c h (length is) n) refl e
+walk-fault zero c at is h n x l e = let z : _≡_ {A = ℕ} 0 1 = cc in absurd (omega arith)
+walk-fault (suc b) c at [] h n x l e = let z : _≡_ {A = ℕ} 0 1 = cc in absurd (omega arith)
+walk-fault (suc b) c at (i ∷ is) h n x l e =
+    item-step b c at i is x (omega arith) (λ at′ is′ h′ n′ k q. walk-fault b c at′ is′ h′ n′ x k q) h n (itemRight i c h (length is) n) refl e
 
 walk-stopped : (w : Walk) (x : Fault) → walkFault w ≡ refused x → w ≡ Stop x
 unfolding walkFault
 walk-stopped (Actions n) x e = let z : _≡_ {A = ℕ} 0 1 = cc in absurd (omega arith)
 walk-stopped (Stop y) x e = cc
 
-pub item-fault : (c : Counts) (is : List Item) (x : Fault) → itemsRight c is ≡ refused x → ItemFault c (itemsAt c) is x
+pub item-fault : (c : Counts) (is : List Item) (x : Fault) → itemsRight c is ≡ refused x → ItemFault c (itemsAt c) is outset 0 x
 unfolding itemsRight walked
-item-fault c is x e = walk-fault (length is) c (itemsAt c) is outset 0 x (walk-stopped _ x e)
+item-fault c is x e = walk-fault (length is) c (itemsAt c) is outset 0 x (omega arith) (walk-stopped _ x e)
 
 -- ---- the messages
 
--- The message at this place is wrong, where the one before it ends there.
-pub record MessageFault (f : List ℕ) (c : Counts) (at count : ℕ) (x : Fault) : Type 0 where
+-- Where the text of the first n entries ends, if it begins at a byte.
+unfoldable pub textTo : List ℕ → (at n from : ℕ) → ℕ
+textTo f at zero from = from
+textTo f at (suc n) from = textTo f (at + messageSize) n (from + u16At f (at + 2))
+
+-- The message at this place is wrong, where the text of those before it ends, and they are right.
+pub record MessageFault (f : List ℕ) (c : Counts) (at count from : ℕ) (x : Fault) : Type 0 where
   pub n : ℕ
   pub below : n < count
   pub place : x ≡ BadMessage (at + messageSize * n)
-  pub from : ℕ
-  pub wrong : messageRight f c (at + messageSize * n) from ≡ false
+  pub wrong : messageRight f c (at + messageSize * n) (textTo f at n from) ≡ false
+  pub before-right : (j : ℕ) → j < n → messageRight f c (at + messageSize * j) (textTo f at j from) ≡ true
 
-module _ (f : List ℕ) (c : Counts) (at count : ℕ) (x : Fault) where
-  message-here : (from : ℕ) → messageRight f c at from ≡ false → x ≡ BadMessage at → MessageFault f c at (suc count) x
-  message-here from wrong e =
+module _ (f : List ℕ) (c : Counts) (at count from : ℕ) (x : Fault) where
+  message-here : messageRight f c at from ≡ false → x ≡ BadMessage at → MessageFault f c at (suc count) from x
+  unfolding textTo
+  message-here wrong e =
       let s : at + messageSize * 0 ≡ at = omega arith in
-      record { n = 0; below = omega arith; place = e ∙ ap BadMessage (sym s); from = from; wrong = rw s wrong }
+      record { n = 0; below = omega arith; place = e ∙ ap BadMessage (sym s); wrong = rw s wrong; before-right = λ j p. absurd (omega arith) }
 
-  message-next : MessageFault f c (at + messageSize) count x → MessageFault f c at (suc count) x
-  message-next h =
+  -- an entry of the rest stands one place further on
+  further : (j : ℕ) (t : Bool) → messageRight f c (at + messageSize + messageSize * j) (textTo f (at + messageSize) j (from + u16At f (at + 2))) ≡ t
+      → messageRight f c (at + messageSize * suc j) (textTo f at (suc j) from) ≡ t
+  unfolding textTo
+  further j t e = let s : at + messageSize * suc j ≡ at + messageSize + messageSize * j = omega arith in rw s e
+
+  first-right : messageRight f c at from ≡ true → messageRight f c (at + messageSize * 0) (textTo f at 0 from) ≡ true
+  unfolding textTo
+  first-right e = let s : at + messageSize * 0 ≡ at = omega arith in rw s e
+
+  message-next : messageRight f c at from ≡ true → MessageFault f c (at + messageSize) count (from + u16At f (at + 2)) x → MessageFault f c at (suc count) from x
+  message-next right h =
       let s : at + messageSize * suc (h .n) ≡ at + messageSize + messageSize * h .n = omega arith in
-      record { n = suc (h .n); below = omega (arith, h .below); place = h .place ∙ ap BadMessage (sym s); from = h .from; wrong = rw s (h .wrong) }
+      record {
+        n = suc (h .n);
+        below = omega (arith, h .below);
+        place = h .place ∙ ap BadMessage (sym s);
+        wrong = further (h .n) false (h .wrong);
+        before-right = before;
+      }
+    where
+    before : (j : ℕ) → j < suc (h .n) → messageRight f c (at + messageSize * j) (textTo f at j from) ≡ true
+    before zero p = first-right right
+    before (suc j) p = further j true (h .before-right j (omega arith))
 
 -- an entry is wrong, or all are right and the text is not used up
-pub message-fault : (f : List ℕ) (c : Counts) (at count from : ℕ) (x : Fault) (P : Type 0) → messagesRight f c at count from ≡ refused x → (MessageFault f c at count x → P) → (x ≡ TextLeft → P) → P
+pub message-fault : (f : List ℕ) (c : Counts) (at count from : ℕ) (x : Fault) (P : Type 0) → messagesRight f c at count from ≡ refused x → (MessageFault f c at count from x → P) → (x ≡ TextLeft → P) → P
 unfolding messagesRight
 message-fault f c at zero from x P e entry text = text (need-fault _ x TextLeft e)
 message-fault f c at (suc count) from x P e entry text =
     fault-of _ _ x P e
-    (λ h. entry (message-here f c at count x from (need-wrong _ x (BadMessage at) h) (need-fault _ x (BadMessage at) h)))
-    (λ _ rest.
+    (λ h. entry (message-here f c at count from x (need-wrong _ x (BadMessage at) h) (need-fault _ x (BadMessage at) h)))
+    (λ right rest.
     fault-of _ _ x P rest
-    (λ h. message-fault f c (at + messageSize) count (from + u16At f (at + 2)) x P h (λ m. entry (message-next f c at count x m)) text)
+    (λ h. message-fault f c (at + messageSize) count (from + u16At f (at + 2)) x P h (λ m. entry (message-next f c at count from x (need-right _ (BadMessage at) right) m)) text)
     (λ _ h. no-fault x P h))

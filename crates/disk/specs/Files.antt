@@ -13,7 +13,7 @@ notRead error = record { count = 0; error = reasonOf error }
 abbrev pub allRead : (count : ℕ) → FileRead
 allRead count = record { count = count; error = pos 0 }
 
--- A read that failed gave no bytes, and its number is told.
+-- Of a read that failed no bytes are told, and its number is.
 unfoldable pub readOf : Filled → (error : ℤ) → FileRead
 readOf read error = cond (read .failed) (notRead error) (allRead (read .count))
 

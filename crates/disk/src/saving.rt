@@ -77,7 +77,7 @@ fn give(part: &[u8], fd: i32, mode: Mode) -> Saved {
     }
 }
 
-// The permissions are given before the bytes, so that nobody reads these who might not read those that were there.
+// The permissions are given before the bytes, so that by its mode the file is never more open than the one that was there.
 fn fill(part: &[u8], fd: i32, mode: Mode, bytes: &[u8]) -> Saved {
     let given = give(part, fd, mode);
     let Saved::Whole = given else {

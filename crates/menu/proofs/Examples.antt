@@ -14,6 +14,6 @@ pub help-told : helpText
     ++ (bytesOf "  help                          lists the commands\n\n"
     ++ (bytesOf "A name of a file may be - for standard input. Before a name that begins with a dash write --\n"
     ++ (bytesOf "Status: 0 done, 1 refused, 2 wrong usage, or something can't be read or written\n"
-    ++ bytesOf "docs/POOLMIRROR.md says more.\n"))))))
+    ++ bytesOf "docs/POOLMIRROR.md says more, and docs/PLAY.md which commands play reads.\n"))))))
 unfolding rowOf commands spaces padded commandLine commandLines helpHead helpEnd helpText
 help-told = refl

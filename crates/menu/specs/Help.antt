@@ -34,7 +34,7 @@ unfoldable pub helpHead : List ℕ
 helpHead = bytesOf "usage: bin/poolmirror COMMAND ARGS\n\n"
 
 unfoldable pub helpEnd : List ℕ
-helpEnd = bytesOf "\nA name of a file may be - for standard input. Before a name that begins with a dash write --\nStatus: 0 done, 1 refused, 2 wrong usage, or something can't be read or written\ndocs/POOLMIRROR.md says more.\n"
+helpEnd = bytesOf "\nA name of a file may be - for standard input. Before a name that begins with a dash write --\nStatus: 0 done, 1 refused, 2 wrong usage, or something can't be read or written\ndocs/POOLMIRROR.md says more, and docs/PLAY.md which commands play reads.\n"
 
 -- All of it, for the commands of the table.
 unfoldable pub helpText : List ℕ

@@ -14,7 +14,7 @@ use Rattle.orders.specs.declared.Usage.the-variants.{Right, Wished, NoCo
 use Rattle.orders.specs.declared.Names.{Names}
 use Rattle.orders.specs.declared.Order.{Order}
 use Rattle.menu.specs.Table.{rowOf, commands, namedIn, commandNamed}
-use Rattle.orders.specs.Usage.{argumentOf, noNames, oneMore, fresh, stopped, isRight, begunNamed, begunAs, begun, named, nameTaken, takenPlain, takenAs, taken, closed, takenAll, ordered}
+use Rattle.orders.specs.Usage.{argumentOf, noNames, nameMore, fresh, stopped, isRight, begunNamed, begunAs, begun, named, nameTaken, takenPlain, takenAs, taken, closed, takenAll, ordered}
 use Rattle.orders.specs.Said.{usageLine, fault, faultUsage, missing, misuseOf, misuseLine, shownByte, shown, firstLine}
 
 -- how many names, and which arguments the first two are
@@ -54,16 +54,16 @@ pub right-calls : map ordered rightCalls
     ∷ order Help (names 0 0 0) 0 Wished 0
     ∷ order Check (names 0 0 0) 0 Wished 0
     ∷ []
-unfolding pick every begins rowOf commands same namedIn commandNamed argumentOf noNames oneMore fresh stopped isRight begunNamed begunAs begun named nameTaken takenPlain takenAs taken closed takenAll ordered
+unfolding pick every begins rowOf commands same namedIn commandNamed argumentOf noNames nameMore fresh stopped isRight begunNamed begunAs begun named nameTaken takenPlain takenAs taken closed takenAll ordered
 right-calls = refl
 
 -- behind `--` what begins with a dash is a name, and `-` is standard input still; the `--` itself is no name
 pub dashes-passed : ordered (bytesOf "play" ∷ bytesOf "a" ∷ bytesOf "--" ∷ bytesOf "-x" ∷ []) ≡ record { command = Play; names = names 2 2 4; inputs = 0; plain = true; usage = Right; at = 0 }
-unfolding pick every begins rowOf commands same namedIn commandNamed argumentOf noNames oneMore fresh stopped isRight begunNamed begunAs begun named nameTaken takenPlain takenAs taken closed takenAll ordered
+unfolding pick every begins rowOf commands same namedIn commandNamed argumentOf noNames nameMore fresh stopped isRight begunNamed begunAs begun named nameTaken takenPlain takenAs taken closed takenAll ordered
 dashes-passed = refl
 
 pub input-behind-dashes : ordered (bytesOf "check" ∷ bytesOf "--" ∷ bytesOf "-x" ∷ bytesOf "-" ∷ []) ≡ record { command = Check; names = names 2 3 4; inputs = 1; plain = true; usage = Right; at = 0 }
-unfolding pick every begins rowOf commands same namedIn commandNamed argumentOf noNames oneMore fresh stopped isRight begunNamed begunAs begun named nameTaken takenPlain takenAs taken closed takenAll ordered
+unfolding pick every begins rowOf commands same namedIn commandNamed argumentOf noNames nameMore fresh stopped isRight begunNamed begunAs begun named nameTaken takenPlain takenAs taken closed takenAll ordered
 input-behind-dashes = refl
 
 -- ---- wrong, and at which argument
@@ -85,7 +85,7 @@ pub wrong-calls : map ordered wrongCalls
     ∷ order Play (names 1 2 0) 1 InputTwice 3
     ∷ order Help (names 0 0 0) 0 NoOption 2
     ∷ []
-unfolding pick every begins rowOf commands same namedIn commandNamed argumentOf noNames oneMore fresh stopped isRight begunNamed begunAs begun named nameTaken takenPlain takenAs taken closed takenAll ordered
+unfolding pick every begins rowOf commands same namedIn commandNamed argumentOf noNames nameMore fresh stopped isRight begunNamed begunAs begun named nameTaken takenPlain takenAs taken closed takenAll ordered
 wrong-calls = refl
 
 -- ---- what is told

@@ -19,35 +19,16 @@ use Rattle.orders.specs.declared.Usage.{Usage}
 use Rattle.orders.specs.declared.Usage.the-variants.{Right, TooFew, TooMany, InputTwice}
 use Rattle.orders.specs.declared.Names.{Names}
 use Rattle.orders.specs.declared.Order.{Order}
-use Rattle.orders.specs.Usage.{dash, argumentOf, noNames, oneMore, fresh, stopped, isRight, begunNamed, begunAs, begun, named, nameTaken, takenPlain, takenAs, taken, closed, takenAll, ordered}
+use Rattle.orders.specs.Usage.{dash, argumentOf, isName, noNames, nameMore, fresh, stopped, isRight, begunNamed, begunAs, begun, named, nameTaken, takenPlain, takenAs, taken, closed, takenAll, ordered}
+use Rattle.orders.specs.Names.{plainAfter, withName, namesAt}
 use Rattle.orders.proofs.OrderLaws.{fault-all}
 use Rattle.orders.proofs.RightLaws.{more-counted, right-is}
-
--- ---- which arguments are names
-
--- behind `--` all are
-unfoldable pub plainAfter : Argument → Bool → Bool
-plainAfter Name plain = plain
-plainAfter Plain plain = true
-plainAfter Wish plain = plain
-plainAfter Dashed plain = plain
-
-unfoldable pub withName : Argument → (i : ℕ) → List ℕ → List ℕ
-withName Name i l = i ∷ l
-withName Plain i l = l
-withName Wish i l = l
-withName Dashed i l = l
-
--- those of these that are, the first of them argument i
-unfoldable pub namesAt : (plain : Bool) → (i : ℕ) → List (List ℕ) → List ℕ
-namesAt plain i [] = []
-namesAt plain i (arg ∷ args) = withName (argumentOf plain arg) i (namesAt (plainAfter (argumentOf plain arg) plain) (suc i) args)
 
 -- ---- one after the other
 
 unfoldable allMore : Names → List ℕ → Names
 allMore n [] = n
-allMore n (i ∷ l) = allMore (oneMore n i) l
+allMore n (i ∷ l) = allMore (nameMore n i) l
 
 -- one argument more, where nothing is found
 record Step (o p : Order) (i : ℕ) (a : Argument) : Type 0 where
@@ -56,18 +37,18 @@ record Step (o p : Order) (i : ℕ) (a : Argument) : Type 0 where
 
 module _ (o : Order) (i : ℕ) (arg : List ℕ) where
   step-name : isRight (nameTaken o i arg .usage) ≡ true → Step o (nameTaken o i arg) i Name
-  unfolding nameTaken pick stopped named isRight allMore withName plainAfter
+  unfolding nameTaken pick stopped named isRight allMore withName isName plainAfter
   step-name = go (leb (rowOf (o .command) .most) (o .names .count)) (same dash arg) (leb 1 (o .inputs)) where
     go : (t s u : Bool)
-        → isRight (pick t (stopped o TooMany i) (pick s (pick u (stopped o InputTwice i) (named o i 1)) (named o i (o .inputs))) .usage) ≡ true
-        → Step o (pick t (stopped o TooMany i) (pick s (pick u (stopped o InputTwice i) (named o i 1)) (named o i (o .inputs)))) i Name
+        → isRight (pick t (stopped o TooMany i) (pick s (pick u (stopped o InputTwice i) (named o i (o .inputs + 1))) (named o i (o .inputs))) .usage) ≡ true
+        → Step o (pick t (stopped o TooMany i) (pick s (pick u (stopped o InputTwice i) (named o i (o .inputs + 1))) (named o i (o .inputs)))) i Name
     go true s u e = let z : _≡_ {A = ℕ} 0 1 = cc in absurd (omega arith)
     go false true true e = let z : _≡_ {A = ℕ} 0 1 = cc in absurd (omega arith)
     go false true false e = record { names = λ l. refl; plain = refl }
     go false false u e = record { names = λ l. refl; plain = refl }
 
   step-as : (a : Argument) → isRight (takenAs o i a arg .usage) ≡ true → Step o (takenAs o i a arg) i a
-  unfolding takenAs takenPlain stopped isRight allMore withName plainAfter
+  unfolding takenAs takenPlain stopped isRight allMore withName isName pick plainAfter
   step-as Name e = step-name e
   step-as Plain e = record { names = λ l. refl; plain = refl }
   step-as Wish e = let z : _≡_ {A = ℕ} 0 1 = cc in absurd (omega arith)
@@ -103,8 +84,8 @@ all-named o i (arg ∷ args) e =
 
 -- ---- the first two
 
-more-kept : (n : Names) (i : ℕ) → 2 ≤ n .count → oneMore n i ≡ record { count = n .count + 1; first = n .first; second = n .second }
-unfolding oneMore pick
+more-kept : (n : Names) (i : ℕ) → 2 ≤ n .count → nameMore n i ≡ record { count = n .count + 1; first = n .first; second = n .second }
+unfolding nameMore pick
 more-kept n i p = rw (ne-eqb (n .count) 0 (λ e. omega arith), ne-eqb (n .count) 1 (λ e. omega arith))
 
 later-kept : (n : Names) (l : List ℕ) → 2 ≤ n .count
@@ -112,14 +93,14 @@ later-kept : (n : Names) (l : List ℕ) → 2 ≤ n .count
 unfolding allMore
 later-kept n [] p = (omega arith, refl, refl)
 later-kept n (i ∷ l) p =
-    let c : oneMore n i .count ≡ n .count + 1 = more-counted n i in
-    let k = later-kept (oneMore n i) l (omega arith) in
-    let r : allMore (oneMore n i) l .count ≡ oneMore n i .count + length l = k .0 in
-    let m : oneMore n i ≡ record { count = n .count + 1; first = n .first; second = n .second } = more-kept n i p in
+    let c : nameMore n i .count ≡ n .count + 1 = more-counted n i in
+    let k = later-kept (nameMore n i) l (omega arith) in
+    let r : allMore (nameMore n i) l .count ≡ nameMore n i .count + length l = k .0 in
+    let m : nameMore n i ≡ record { count = n .count + 1; first = n .first; second = n .second } = more-kept n i p in
     (omega arith, k .1 ∙ ap (λ (x : Names). x .first) m, k .2 ∙ ap (λ (x : Names). x .second) m)
 
 placed : (l : List ℕ) → (allMore noNames l .count ≡ length l) × (allMore noNames l .first ≡ getD l 0 0) × (allMore noNames l .second ≡ getD l 1 0)
-unfolding allMore oneMore noNames pick
+unfolding allMore nameMore noNames pick
 placed [] = (refl, refl, refl)
 placed (i ∷ []) = (refl, refl, refl)
 placed (i ∷ j ∷ l) =

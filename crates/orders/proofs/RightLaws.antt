@@ -19,7 +19,7 @@ use Rattle.orders.specs.declared.Order.{Order}
 use Rattle.menu.specs.declared.table.Lookup.{Lookup}
 use Rattle.menu.specs.declared.table.Lookup.the-variants.{Known, Unknown}
 use Rattle.menu.specs.Table.{rowOf, commandNamed}
-use Rattle.orders.specs.Usage.{dash, argumentOf, noNames, oneMore, fresh, stopped, isRight, begunNamed, begunAs, begun, named, nameTaken, takenPlain, takenAs, taken, closed, takenAll, ordered}
+use Rattle.orders.specs.Usage.{dash, argumentOf, noNames, nameMore, fresh, stopped, isRight, begunNamed, begunAs, begun, named, nameTaken, takenPlain, takenAs, taken, closed, takenAll, ordered}
 
 -- no more names than the command takes, and standard input once at most
 pub record Fitting (o : Order) : Type 0 where
@@ -46,8 +46,8 @@ begun-as-fits Dashed arg = named-fits (commandNamed arg)
 
 -- ---- one argument more
 
-pub more-counted : (n : Names) (i : ℕ) → oneMore n i .count ≡ n .count + 1
-unfolding oneMore pick
+pub more-counted : (n : Names) (i : ℕ) → nameMore n i .count ≡ n .count + 1
+unfolding nameMore pick
 more-counted n i = go (eqb (n .count) 0) (eqb (n .count) 1) where
   go : (s t : Bool)
       → pick {A = Names} s (record { count = n .count + 1; first = i; second = n .second })
@@ -65,18 +65,18 @@ module _ (o : Order) (f : Fitting o) where
   named-more-fits : (i n : ℕ) → o .names .count < rowOf (o .command) .most → n ≤ 1 → Fitting (named o i n)
   unfolding named
   named-more-fits i n p q =
-      let c : oneMore (o .names) i .count ≡ o .names .count + 1 = more-counted (o .names) i in
+      let c : nameMore (o .names) i .count ≡ o .names .count + 1 = more-counted (o .names) i in
       record { few = omega arith; single = q }
 
   name-fits : (i : ℕ) (arg : List ℕ) → Fitting (nameTaken o i arg)
   unfolding nameTaken pick
-  name-fits i arg = go (leb (rowOf (o .command) .most) (o .names .count)) (same dash arg) (leb 1 (o .inputs)) refl where
-    go : (t s u : Bool) → leb (rowOf (o .command) .most) (o .names .count) ≡ t
-        → Fitting (pick t (stopped o TooMany i) (pick s (pick u (stopped o InputTwice i) (named o i 1)) (named o i (o .inputs))))
-    go true s u e = stopped-fits TooMany i
-    go false true true e = stopped-fits InputTwice i
-    go false true false e = named-more-fits i 1 (leb-false _ _ e) (omega arith)
-    go false false u e = named-more-fits i (o .inputs) (leb-false _ _ e) (f .single)
+  name-fits i arg = go (leb (rowOf (o .command) .most) (o .names .count)) (same dash arg) (leb 1 (o .inputs)) refl refl where
+    go : (t s u : Bool) → leb (rowOf (o .command) .most) (o .names .count) ≡ t → leb 1 (o .inputs) ≡ u
+        → Fitting (pick t (stopped o TooMany i) (pick s (pick u (stopped o InputTwice i) (named o i (o .inputs + 1))) (named o i (o .inputs))))
+    go true s u e d = stopped-fits TooMany i
+    go false true true e d = stopped-fits InputTwice i
+    go false true false e d = let l : o .inputs < 1 = leb-false 1 (o .inputs) d in named-more-fits i (o .inputs + 1) (leb-false _ _ e) (omega arith)
+    go false false u e d = named-more-fits i (o .inputs) (leb-false _ _ e) (f .single)
 
   as-fits : (i : ℕ) (a : Argument) (arg : List ℕ) → Fitting (takenAs o i a arg)
   unfolding takenAs takenPlain

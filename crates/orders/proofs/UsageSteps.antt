@@ -22,7 +22,7 @@ use Rattle.orders.specs.declared.Order.{Order}
 use Rattle.menu.specs.declared.table.Lookup.{Lookup}
 use Rattle.menu.specs.declared.table.Lookup.the-variants.{Known, Unknown}
 use Rattle.menu.specs.Table.{rowOf, commandNamed}
-use Rattle.orders.specs.Usage.{dash, argumentOf, isName, oneMore, fresh, stopped, isRight, begunNamed, begunAs, begun, named, nameTaken, takenPlain, takenAs, taken, closed}
+use Rattle.orders.specs.Usage.{dash, argumentOf, isName, nameMore, fresh, stopped, isRight, begunNamed, begunAs, begun, named, nameTaken, takenPlain, takenAs, taken, closed}
 
 -- ---- what an argument is
 
@@ -70,24 +70,24 @@ pub ruleset naming = (name-case, needs)
 -- ---- one name more
 
 module _ (n : Names) (i : ℕ) where
-  pub more-first : n .count ≡ 0 → record { count = n .count + 1; first = i; second = n .second } ≡ oneMore n i
-  unfolding oneMore
+  pub more-first : n .count ≡ 0 → record { count = n .count + 1; first = i; second = n .second } ≡ nameMore n i
+  unfolding nameMore
   more-first e = pick-true _ _ _ _ (eq-eqb (n .count) 0 e) refl
 
-  pub more-second : (n .count ≡ 0 → ⊥) → n .count ≡ 1 → record { count = n .count + 1; first = n .first; second = i } ≡ oneMore n i
-  unfolding oneMore
+  pub more-second : (n .count ≡ 0 → ⊥) → n .count ≡ 1 → record { count = n .count + 1; first = n .first; second = i } ≡ nameMore n i
+  unfolding nameMore
   more-second z e = pick-false _ _ _ _ (ne-eqb (n .count) 0 z) (pick-true _ _ _ _ (eq-eqb (n .count) 1 e) refl)
 
-  pub more-later : (n .count ≡ 0 → ⊥) → (n .count ≡ 1 → ⊥) → record { count = n .count + 1; first = n .first; second = n .second } ≡ oneMore n i
-  unfolding oneMore
+  pub more-later : (n .count ≡ 0 → ⊥) → (n .count ≡ 1 → ⊥) → record { count = n .count + 1; first = n .first; second = n .second } ≡ nameMore n i
+  unfolding nameMore
   more-later z o = pick-false _ _ _ _ (ne-eqb (n .count) 0 z) (pick-false _ _ _ _ (ne-eqb (n .count) 1 o) refl)
 
-pub name-more : (o : Order) (n : Names) (i inputs : ℕ) → n ≡ oneMore (o .names) i
+pub named-more : (o : Order) (n : Names) (i inputs : ℕ) → n ≡ nameMore (o .names) i
     → record { command = o .command; names = n; inputs = inputs; plain = o .plain; usage = o .usage; at = o .at } ≡ named o i inputs
 unfolding named
-name-more o n i inputs e = rw e
+named-more o n i inputs e = rw e
 
-pub ruleset adding = (more-first, more-second, more-later, name-more, needs)
+pub ruleset adding = (more-first, more-second, more-later, named-more, needs)
 
 -- ---- the first argument
 
@@ -130,14 +130,14 @@ module _ (o : Order) (i : ℕ) (arg : List ℕ) (r : Order) (most : ℕ) (em : m
   name-many p e = pick-true _ _ _ _ (rw (← em) (le-leb most (o .names .count) p)) e
 
   module _ (few : o .names .count < most) (t : Bool) (et : t ≡ same dash arg) where
-    counts : r ≡ pick (same dash arg) (pick (leb 1 (o .inputs)) (stopped o InputTwice i) (named o i 1)) (named o i (o .inputs)) → r ≡ nameTaken o i arg
+    counts : r ≡ pick (same dash arg) (pick (leb 1 (o .inputs)) (stopped o InputTwice i) (named o i (o .inputs + 1))) (named o i (o .inputs)) → r ≡ nameTaken o i arg
     unfolding nameTaken
     counts e = pick-false _ _ _ _ (rw (← em) (lt-leb most (o .names .count) few)) e
 
     pub name-twice : t ≡ true → 1 ≤ o .inputs → r ≡ stopped o InputTwice i → r ≡ nameTaken o i arg
     name-twice p q e = counts (pick-true _ _ _ _ (sym et ∙ p) (pick-true _ _ _ _ (le-leb 1 (o .inputs) q) e))
 
-    pub name-input : t ≡ true → o .inputs < 1 → r ≡ named o i 1 → r ≡ nameTaken o i arg
+    pub name-input : t ≡ true → o .inputs < 1 → r ≡ named o i (o .inputs + 1) → r ≡ nameTaken o i arg
     name-input p q e = counts (pick-true _ _ _ _ (sym et ∙ p) (pick-false _ _ _ _ (lt-leb 1 (o .inputs) q) e))
 
     pub name-file : t ≡ false → r ≡ named o i (o .inputs) → r ≡ nameTaken o i arg

@@ -15,7 +15,7 @@ endingOf TooFew done = Failed
 endingOf TooMany done = Failed
 endingOf InputTwice done = Failed
 
--- What could not be written has failed.
-abbrev pub printedEnding : (written : Bool) → Ending
-printedEnding true = Done
-printedEnding false = Failed
+-- What could not be read or written has failed.
+abbrev pub endingIf : (done : Bool) → Ending
+endingIf true = Done
+endingIf false = Failed

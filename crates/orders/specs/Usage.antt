@@ -47,8 +47,8 @@ unfoldable pub noNames : Names
 noNames = record { count = 0; first = 0; second = 0 }
 
 -- One name more, which is argument i. Of the first and the second it is kept which arguments they are.
-unfoldable pub oneMore : Names → (i : ℕ) → Names
-oneMore n i =
+unfoldable pub nameMore : Names → (i : ℕ) → Names
+nameMore n i =
     pick (eqb (n .count) 0) (record { count = n .count + 1; first = i; second = n .second })
     (pick (eqb (n .count) 1) (record { count = n .count + 1; first = n .first; second = i })
     (record { count = n .count + 1; first = n .first; second = n .second }))
@@ -93,13 +93,13 @@ begun arg = begunAs (argumentOf false arg) arg
 
 -- The order with a name more, where so many of the names are standard input.
 unfoldable pub named : Order → (i inputs : ℕ) → Order
-named o i inputs = record { command = o .command; names = oneMore (o .names) i; inputs = inputs; plain = o .plain; usage = o .usage; at = o .at }
+named o i inputs = record { command = o .command; names = nameMore (o .names) i; inputs = inputs; plain = o .plain; usage = o .usage; at = o .at }
 
 -- A name, which is argument i: one more than the command takes, and standard input a second time, are faults.
 unfoldable pub nameTaken : Order → (i : ℕ) → List ℕ → Order
 nameTaken o i arg =
     pick (leb (rowOf (o .command) .most) (o .names .count)) (stopped o TooMany i)
-    (pick (same dash arg) (pick (leb 1 (o .inputs)) (stopped o InputTwice i) (named o i 1)) (named o i (o .inputs)))
+    (pick (same dash arg) (pick (leb 1 (o .inputs)) (stopped o InputTwice i) (named o i (o .inputs + 1))) (named o i (o .inputs)))
 
 -- The `--`, behind which each argument is a name.
 unfoldable pub takenPlain : Order → Order

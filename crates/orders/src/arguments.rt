@@ -4,7 +4,7 @@ ghost use mathlib.Core.List.{[]};
 ghost use Prim.Native.Nat.{_<_};
 ghost use Rattle.ascii.specs.Words.{same};
 ghost use Rattle.menu.specs.Table.{rowOf, anyNumber};
-ghost use Rattle.orders.specs.Usage.{argumentOf, isName, oneMore, fresh, stopped, isRight, begunNamed, begun, named, nameTaken, takenPlain, takenAs, taken, closed, dash, ordered};
+ghost use Rattle.orders.specs.Usage.{argumentOf, isName, nameMore, fresh, stopped, isRight, begunNamed, begun, named, nameTaken, takenPlain, takenAs, taken, closed, dash, ordered};
 use crate::Argument;
 use crate::Names;
 use crate::Order;
@@ -72,9 +72,9 @@ pub fn is_name(o: Order, arg: &[u8]) -> bool
 }
 
 // One name more, which is argument i.
-fn one_more(n: Names, i: usize) -> Names
+fn name_more(n: Names, i: usize) -> Names
     requires { ⌜ n .count < anyNumber ⌝ }
-    ensures { λ r. ⌜ r ≡ oneMore n i ⌝ }
+    ensures { λ r. ⌜ r ≡ nameMore n i ⌝ }
 {
     if n.count == 0 {
         return Names {
@@ -182,7 +182,7 @@ fn named(o: Order, i: usize, inputs: usize) -> Order
     ensures { λ r. ⌜ r ≡ named o i inputs ⌝ }
 {
     let c = o.command;
-    let n = one_more(o.names, i);
+    let n = name_more(o.names, i);
     let u = o.usage;
     Order {
         command: c,
@@ -207,13 +207,13 @@ fn take_name(o: Order, i: usize, arg: &[u8]) -> Order
         if 1 <= o.inputs {
             return stopped(o, Usage::InputTwice, i);
         }
-        return named(o, i, 1);
+        return named(o, i, o.inputs + 1);
     }
     named(o, i, o.inputs)
 }
 
 // The order, where each argument from here on is a name.
-fn pass_dashes(o: Order) -> Order
+fn take_plain(o: Order) -> Order
     ensures { λ r. ⌜ r ≡ takenPlain o ⌝ }
 {
     let c = o.command;
@@ -235,7 +235,7 @@ fn take_as(o: Order, i: usize, a: Argument, arg: &[u8]) -> Order
 {
     match a {
         Argument::Name => take_name(o, i, arg),
-        Argument::Plain => pass_dashes(o),
+        Argument::Plain => take_plain(o),
         Argument::Wish => stopped(o, Usage::Wished, 0),
         Argument::Dashed => stopped(o, Usage::NoOption, i),
     }

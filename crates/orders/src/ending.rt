@@ -1,6 +1,6 @@
 // How the program ends, by what was ordered and how it was carried out.
 ghost use mathlib.Core.Path.{_≡_};
-ghost use Rattle.orders.specs.Endings.{endingOf, printedEnding};
+ghost use Rattle.orders.specs.Endings.{endingOf, endingIf};
 use crate::Usage;
 use streams::Ending;
 
@@ -19,11 +19,11 @@ pub fn ending_of(u: Usage, done: Ending) -> Ending
     }
 }
 
-// What could not be written has failed.
-pub fn printed_ending(written: bool) -> Ending
-    ensures { λ r. ⌜ r ≡ printedEnding written ⌝ }
+// What could not be read or written has failed.
+pub fn ending_if(done: bool) -> Ending
+    ensures { λ r. ⌜ r ≡ endingIf done ⌝ }
 {
-    if written {
+    if done {
         return Ending::Done;
     }
     Ending::Failed

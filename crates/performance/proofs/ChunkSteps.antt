@@ -6,6 +6,7 @@ use mathlib.Core.List.{List}
 use Prim.Native.Nat.{ℕ, _+_, _-_, _*_, _≤_, _<_}
 use native.Mathlib.Omega.{arith}
 use lib.ListN.{length, take, drop, drop-of-length-le, length-take}
+use lib.Seq.{length-take-le}
 use borrow.Author.Needs.{needs}
 use Rattle.lines.specs.Input.{keptBytes}
 use Rattle.playing.specs.Inner.{outputRoom, Asked}
@@ -68,6 +69,33 @@ pub failed : (a b : Reading) → _≡_ {A = Bool} true false → a ≡ b
 failed a b e = let z : _≡_ {A = ℕ} 0 1 = cc in absurd (omega arith)
 
 pub ruleset chunks = (taking-start, taking-going, taking-all, taking-lines, taking-asked, needs)
+
+-- ---- a part of a chunk
+
+module _ (f chunk line out : List ℕ) (n : ℕ) (p : Progress) (g : Going f chunk 0 line p out) where
+  pub part-going : n ≤ length chunk → Going f (take n chunk) 0 line p out
+  part-going l =
+      let k : length (take n chunk) ≡ n = length-take-le n chunk l in
+      record { place = omega arith; kept = g .kept; space = g .space; lines = omega (arith, g .lines); asked = g .asked }
+
+  pub part-lines : (q : ℕ) → n ≤ length chunk → q ≤ p .lines + length (take n chunk) → q ≤ p .lines + length chunk
+  part-lines q l m = omega (arith, length-take-le n chunk l)
+
+  pub part-kept : p .have ≤ keptBytes
+  part-kept = g .kept
+
+  pub part-asked : Asked f (p .opened) out
+  part-asked = g .asked
+
+-- more bytes than there are, and a part that is there
+module _ (a b : Reading) (n l : ℕ) (failed : Bool) where
+  pub part-none : l < n → n ≤ l → failed ≡ false → a ≡ b
+  part-none p q e = absurd (omega arith)
+
+  pub part-all : (failed ≡ false → a ≡ b) → n ≤ l → failed ≡ false → a ≡ b
+  part-all h q e = h e
+
+pub ruleset parts = (part-going, part-lines, part-kept, part-asked, part-none, part-all, length-take-le, needs)
 
 -- ---- chunk after chunk
 

@@ -1,2 +1,2 @@
--- When a run has been refused.
+-- When a performance has been refused, and how it ends.
 pub mod Refused

@@ -1,13 +1,25 @@
 // A score played by commands from a descriptor, with what the electronics are sent on standard output. It moves bytes between the system and the proved libraries, and decides nothing about music.
+ghost use mathlib.Core.Path.{_≡_};
 ghost use Prim.Native.Nat.{_≤_};
 ghost use lib.ListN.{length};
 ghost use Rattle.playing.specs.Inner.{Asked, outputRoom};
+ghost use Rattle.performance.specs.Refused.{endingAfter};
 use reading::Run;
 use reading::read_lines;
 use streams::Ending;
 use telling::after_line;
 
 mod reading;
+
+// How a performance ends that was read and written to its end.
+fn ending_after(refused: bool) -> Ending
+    ensures { λ r. ⌜ r ≡ endingAfter refused ⌝ }
+{
+    if refused {
+        return Ending::Refused;
+    }
+    Ending::Done
+}
 
 // The input's end: the line that is left, if any is, and the end. How the run has come out.
 fn finish(
@@ -26,7 +38,9 @@ fn finish(
         × Asked (now file) (s .progress .opened) (now out)
         ⌝ }
 {
-    let n = chunks::last_line(file, mem, room, line, s.progress, out);
+    let p = s.progress;
+    telling::say_empty(first, p.lines, p.have);
+    let n = chunks::last_line(file, mem, room, line, p, out);
     if !streams::print(out, n) {
         return Ending::Failed;
     }
@@ -35,10 +49,7 @@ fn finish(
     if !streams::print(out, n) {
         return Ending::Failed;
     }
-    if refused {
-        return Ending::Refused;
-    }
-    Ending::Done
+    ending_after(refused)
 }
 
 // Plays the score's bytes by the commands that come from the descriptor `input`. People are told of a refused score as `score`, of a refused tempo as `first`, and of an input that can't be read as `commands`.

@@ -2,7 +2,7 @@
 ghost use mathlib.Core.Path.{_≡_};
 ghost use mathlib.Core.Bool.{false};
 ghost use Prim.Native.Nat.{_+_, _≤_};
-ghost use lib.ListN.{length, drop};
+ghost use lib.ListN.{length, take, drop};
 ghost use Rattle.lines.specs.Input.{keptBytes};
 ghost use Rattle.playing.specs.Inner.{Asked, outputRoom};
 ghost use Rattle.chunks.specs.Reading.{bytesRead};
@@ -128,7 +128,7 @@ fn take_chunk(
     }
 }
 
-// The first n bytes of a chunk.
+// The first n bytes of a chunk. More than it has are not there to be read.
 fn take_part(
     file: &[u8],
     score: &[u8],
@@ -146,13 +146,16 @@ fn take_part(
         (r .progress .have ≤ keptBytes)
         × (r .progress .lines ≤ s .progress .lines + length (now (chunk .entry)))
         × Asked (now (file .entry)) (r .progress .opened) (now (out .exit))
+        × (n ≤ length (now (chunk .entry)) →
+        r .failed ≡ false →
+        readingOf (now (mem .exit)) (now (room .exit)) (now (line .exit)) (r .progress)
+        ≡ bytesRead (now (file .entry)) (readingOf (now (mem .entry)) (now (room .entry)) (now (line .entry)) (s .progress)) (take n (now (chunk .entry))) .reading)
         ⌝ }
 {
     if chunk.len() < n {
         return s;
     }
-    let from = 0;
-    take_chunk(file, score, first, mem, room, &chunk[from..n], line, s, out)
+    take_chunk(file, score, first, mem, room, &chunk[..n], line, s, out)
 }
 
 // The run at the end of its input, or where a read failed with this error number.

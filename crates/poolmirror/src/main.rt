@@ -2,7 +2,6 @@
 ghost use mathlib.Core.Path.{_≡_};
 ghost use Prim.Native.Nat.{_+_, _≤_};
 ghost use lib.ListN.{length};
-use checking::Came;
 use checking::Tally;
 use disk::FileRead;
 use libc::PATH_MAX;
@@ -62,7 +61,7 @@ fn read_order(arg: &mut [u8]) -> Order {
     orders::close(o)
 }
 
-// ---- names
+// ---- files
 
 // A file's bytes, or standard input's, as many as there is room for.
 fn read_named(name: &[u8], file: &mut [u8]) -> FileRead
@@ -170,7 +169,7 @@ fn check(arg: &mut [u8], file: &mut [u8], out: &mut [u8]) -> Ending
 {
     let s = check_names(arg, file, out);
     if s.failed {
-        return orders::printed_ending(false);
+        return orders::ending_if(false);
     }
     let tally = s.tally;
     say_tally(out, tally);
@@ -179,12 +178,10 @@ fn check(arg: &mut [u8], file: &mut [u8], out: &mut [u8]) -> Ending
 
 // ---- play
 
-fn say_unread(out: &mut [u8], name: &[u8], error: i32) -> Ending
-    requires { ⌜ (length (now name) ≤ 4096) × (8192 ≤ length (now out)) ⌝ }
-{
-    let n = reasons::unread_line(out, name, error);
-    streams::say_first(out, n);
-    checking::ending_of(checking::count_file(checking::no_files(), Came::Unread))
+// What can't be read is told, and nothing is played.
+fn unread(name: &[u8], error: i32) -> Ending {
+    telling::say_unread(name, error);
+    orders::ending_if(false)
 }
 
 // The commands' descriptor, or -1.
@@ -230,7 +227,7 @@ fn play_score(
     let read = read_named(&score[from..n], file);
     let named = orders::show(score, n);
     if read.error != 0 {
-        return say_unread(out, &score[from..named], read.error);
+        return unread(&score[from..named], read.error);
     }
     let size = read.count;
     perform(&file[from..size], &score[from..named], list, input, out)
@@ -248,7 +245,7 @@ fn play(o: Order, score: &mut [u8], list: &mut [u8], file: &mut [u8], out: &mut 
     let error = os::errno();
     let listed = orders::show(list, m);
     if input < 0 {
-        return say_unread(out, &list[from..listed], error);
+        return unread(&list[from..listed], error);
     }
     play_score(score, n, &list[from..listed], input, file, out)
 }
@@ -259,14 +256,14 @@ fn help(out: &mut [u8]) -> Ending
     requires { ⌜ 8192 ≤ length (now out) ⌝ }
 {
     let n = menu::help_text(out);
-    orders::printed_ending(streams::print(out, n))
+    orders::ending_if(streams::print(out, n))
 }
 
 fn replies(out: &mut [u8]) -> Ending
     requires { ⌜ 8192 ≤ length (now out) ⌝ }
 {
     let n = wording::reply_lines(out);
-    orders::printed_ending(streams::print(out, n))
+    orders::ending_if(streams::print(out, n))
 }
 
 // A wrong usage is told with the argument at fault, and nothing is done.
@@ -278,8 +275,7 @@ fn misused(o: Order, arg: &mut [u8], out: &mut [u8]) -> Ending
     let shown = orders::show(arg, n);
     let m = orders::misuse_line(out, o, &arg[from..shown]);
     streams::say_first(out, m);
-    let u = o.usage;
-    orders::ending_of(u, Ending::Done)
+    Ending::Done
 }
 
 // ---- the program
@@ -317,6 +313,7 @@ fn main() {
     let mut arg = [0u8; PATH_MAX];
     let mut out = [0u8; LINE_ROOM];
     let o = read_order(&mut arg);
-    let ending = obey(o, &mut arg, &mut out);
-    streams::tell_ending(ending);
+    let done = obey(o, &mut arg, &mut out);
+    let u = o.usage;
+    streams::tell_ending(orders::ending_of(u, done));
 }

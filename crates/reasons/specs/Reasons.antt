@@ -30,7 +30,7 @@ reasonTable =
     ∷ reason 28 "the disk is full"
     ∷ reason 30 "the disk can only be read"
     ∷ reason 36 "the name is too long"
-    ∷ reason 40 "links that lead in a circle"
+    ∷ reason 40 "links in a circle, or too many"
     ∷ []
 
 -- The words of the row that has the number. One without a row is told as it is.

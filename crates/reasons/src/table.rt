@@ -45,7 +45,7 @@ pub fn put_reason(out: &mut [u8], at: usize, n: u64) -> usize
         28 => put_bytes(out, at, b"the disk is full"),
         30 => put_bytes(out, at, b"the disk can only be read"),
         36 => put_bytes(out, at, b"the name is too long"),
-        40 => put_bytes(out, at, b"links that lead in a circle"),
+        40 => put_bytes(out, at, b"links in a circle, or too many"),
         _ => put_error(out, at, n),
     }
 }

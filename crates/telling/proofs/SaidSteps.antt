@@ -58,7 +58,7 @@ module _ (o m name : List ℕ) (n a : ℕ) (e : take n name ≡ toldName name) w
   lay-refused file x p = rw e at p
 
   pub lay-unopened : (l : List ℕ) (r : ℕ) → Laid o 0 (take n name) m a
-      → Laid m a (bytesOf ": opens no score, so every line is bad. The first line has to be O PARTS TEMPO, as O 65535 5040\n") l r → Laid o 0 (unopenedLine name) l r
+      → Laid m a (bytesOf ": opens no score, so nothing is played. The first line of the commands has to be O PARTS TEMPO and no more, as O 65535 5040 (docs/PLAY.md)\n") l r → Laid o 0 (unopenedLine name) l r
   unfolding unopenedLine
   lay-unopened l r p q = laid-join o m l _ _ 0 a r (rw e at p) q
 
@@ -66,7 +66,7 @@ pub ruleset saying = (unread-fits, line-fits, lay-unread, lay-refused, length-ta
 
 -- There is room for the words behind the name.
 pub words-fit : (o m name : List ℕ) (n a : ℕ) → n ≤ mostName → saidRoom ≤ length o → Laid o 0 (take n name) m a
-    → a + length (bytesOf ": opens no score, so every line is bad. The first line has to be O PARTS TEMPO, as O 65535 5040\n") ≤ length m
+    → a + length (bytesOf ": opens no score, so nothing is played. The first line of the commands has to be O PARTS TEMPO and no more, as O 65535 5040 (docs/PLAY.md)\n") ≤ length m
 words-fit o m name n a p q l =
     let s : a ≡ 0 + length (take n name) = l .stop in
     let z : length m ≡ length o = l .size in

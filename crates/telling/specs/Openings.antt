@@ -1,4 +1,4 @@
--- Whether a line of the input is an opening that is refused, or opens nothing though it is the first, and how that is read off what the line printed. Of a refusal it is a theorem that both agree (proofs/OpeningLaws).
+-- Whether a line of the input is an opening that is refused, and how that is read off what the line printed: that both agree is a theorem (proofs/OpeningLaws). And that a first line opens nothing, read off in the same way.
 use Prim.Native.Nat.{ℕ}
 use mathlib.Core.Bool.{Bool, false, not}
 use mathlib.Core.List.{List}

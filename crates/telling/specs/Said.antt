@@ -43,4 +43,4 @@ refusedLine name file x = refusalLine (toldName name) file x
 
 -- What is wrong with a first line that opens nothing, what follows from it, and what to write.
 unfoldable pub unopenedLine : (first : List ℕ) → List ℕ
-unopenedLine first = toldName first ++ bytesOf ": opens no score, so every line is bad. The first line has to be O PARTS TEMPO, as O 65535 5040\n"
+unopenedLine first = toldName first ++ bytesOf ": opens no score, so nothing is played. The first line of the commands has to be O PARTS TEMPO and no more, as O 65535 5040 (docs/PLAY.md)\n"

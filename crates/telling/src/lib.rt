@@ -1,5 +1,6 @@
 // What people are told of a run on standard error: why the opening was refused, that the first line opens nothing, and why the input can't be read.
 pub use said::after_line;
+pub use said::say_empty;
 pub use said::say_unread;
 
 mod said;

@@ -121,19 +121,32 @@ fn put_unopened(text: &mut [u8], first: &[u8]) -> usize
     put_bytes(
         text,
         at,
-        b": opens no score, so every line is bad. The first line has to be O PARTS TEMPO, as O 65535 5040\n",
+        b": opens no score, so nothing is played. The first line of the commands has to be O PARTS TEMPO and no more, as O 65535 5040 (docs/PLAY.md)\n",
     )
+}
+
+fn tell_unopened(first: &[u8]) {
+    let mut text = [0u8; SAID_ROOM];
+    let n = put_unopened(&mut text, first);
+    streams::say_first(&text, n);
 }
 
 fn say_unopened(first: &[u8], out: &[u8], n: usize)
     requires { ⌜ n ≤ length (now out) ⌝ }
 {
-    if !is_unopened(out, n) {
+    if is_unopened(out, n) {
+        tell_unopened(first);
+    }
+}
+
+// An input that ends with no line and no byte opens nothing either.
+pub fn say_empty(first: &[u8], lines: u64, kept: usize) {
+    if 0 < lines {
         return;
     }
-    let mut text = [0u8; SAID_ROOM];
-    let k = put_unopened(&mut text, first);
-    streams::say_first(&text, k);
+    if kept < 1 {
+        tell_unopened(first);
+    }
 }
 
 // ---- after a line

@@ -76,7 +76,7 @@ pub fn reason(error: &io::Error) -> String {
         NOT_PERMITTED | NO_ACCESS => "no permission",
         NAME_TOO_LONG => "the name is too long",
         NOT_A_FOLDER => "the name leads through a file",
-        TOO_MANY_LINKS => "links that lead in a circle",
+        TOO_MANY_LINKS => "links in a circle, or too many",
         NOT_OPEN => "closed",
         DEVICE_FAILED => "the disk or the device has failed",
         number => return format!("error {number}"),

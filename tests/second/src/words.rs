@@ -441,7 +441,7 @@ fn names_and_reasons(tally: &mut Tally) {
         (21, "a folder"),
         (22, "error 22"),
         (36, "the name is too long"),
-        (40, "links that lead in a circle"),
+        (40, "links in a circle, or too many"),
         (116, "error 116"),
     ] {
         let said = reason(&io::Error::from_raw_os_error(number));

@@ -15,6 +15,7 @@ take-name-spec =
     (λ c κs. search counting)
     (λ c κs. search counting)
     (λ c. search counting)
+    (λ c. search counting)
     (λ c κs. search counting)
     (λ c. search counting)
     (λ c κs. search counting)
