@@ -266,7 +266,7 @@ fn replies(out: &mut [u8]) -> Ending
     orders::ending_if(streams::print(out, n))
 }
 
-// A wrong usage is told with the argument at fault, and nothing is done.
+// A wrong usage is told with the argument at fault, and nothing else is done. That it has failed is `ending_of`'s to say.
 fn misused(o: Order, arg: &mut [u8], out: &mut [u8]) -> Ending
     requires { ⌜ (length (now arg) ≡ 4096) × (8192 ≤ length (now out)) ⌝ }
 {
