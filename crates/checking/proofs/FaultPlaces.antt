@@ -234,9 +234,9 @@ module _ (f : List ℕ) (c : Counts) (at count from : ℕ) (x : Fault) where
         before-right = before;
       }
     where
-    before : (j : ℕ) → j < suc (h .n) → messageRight f c (at + messageSize * j) (textTo f at j from) ≡ true
-    before zero p = first-right right
-    before (suc j) p = further j true (h .before-right j (omega arith))
+      before : (j : ℕ) → j < suc (h .n) → messageRight f c (at + messageSize * j) (textTo f at j from) ≡ true
+      before zero p = first-right right
+      before (suc j) p = further j true (h .before-right j (omega arith))
 
 -- an entry is wrong, or all are right and the text is not used up
 pub message-fault : (f : List ℕ) (c : Counts) (at count from : ℕ) (x : Fault) (P : Type 0) → messagesRight f c at count from ≡ refused x → (MessageFault f c at count from x → P) → (x ≡ TextLeft → P) → P

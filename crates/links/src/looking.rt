@@ -47,7 +47,7 @@ struct Asked {
 
 // The path with zeros behind it, as the system reads one.
 pub fn ended(path: &[u8]) -> [u8; PATH_MAX]
-    requires { ⌜ length (now path) ≤ 4095 ⌝ }
+    requires { ⌜ length (now path) ≤ longestPath ⌝ }
     ensures { λ r. ⌜ (take (length (now (path .entry))) r ≡ now (path .entry)) × Ended r ⌝ }
 {
     let mut text = [0u8; PATH_MAX];
