@@ -1,0 +1,1 @@
+-- Laws of tokens and each step of the code, for the proofs of several functions and for the crates above.

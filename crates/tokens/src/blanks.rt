@@ -1,0 +1,61 @@
+// "any number of blanks: space, tab, carriage return, newline, and `#` with all up to the end of its line"
+ghost use mathlib.Core.Path.{_≡_};
+ghost use Prim.Native.Nat.{_≤_};
+ghost use lib.ListN.{length};
+ghost use Rattle.tokens.specs.Bytes.{isBlank};
+ghost use Rattle.tokens.specs.Asked.{Passes, PassesComment};
+use ascii::NEWLINE;
+use ascii::SPACE;
+
+const HASH: u8 = b'#';
+
+fn is_blank(b: u8) -> bool
+    ensures { λ r. ⌜ r ≡ isBlank b ⌝ }
+{
+    if b == SPACE {
+        return true;
+    }
+    if b == b'\t' {
+        return true;
+    }
+    if b == b'\r' {
+        return true;
+    }
+    b == NEWLINE
+}
+
+// Where the line ends that a comment stands in, from within it.
+fn past_comment(text: &[u8], at: usize) -> usize
+    requires { ⌜ at ≤ length (now text) ⌝ }
+    ensures { λ r. ⌜ PassesComment (now (text .entry)) at r ⌝ }
+{
+    let mut i = at;
+    while i < text.len() {
+        let b = text[i];
+        if b == NEWLINE {
+            return i + 1;
+        }
+        i += 1;
+    }
+    i
+}
+
+// The first byte from `at` on that is no blank, or the text's end.
+pub fn past_blanks(text: &[u8], at: usize) -> usize
+    requires { ⌜ at ≤ length (now text) ⌝ }
+    ensures { λ r. ⌜ Passes (now (text .entry)) at r ⌝ }
+{
+    let mut i = at;
+    while i < text.len() {
+        let b = text[i];
+        if is_blank(b) {
+            i += 1;
+            continue;
+        }
+        if b != HASH {
+            return i;
+        }
+        i = past_comment(text, i + 1);
+    }
+    i
+}
