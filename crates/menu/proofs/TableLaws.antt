@@ -10,7 +10,7 @@ use Rattle.base.specs.Tests.{pick, every}
 use Rattle.ascii.specs.Words.{begins, same}
 use Rattle.ascii.proofs.WordLaws.{same-bytes}
 use Rattle.menu.specs.declared.Command.{Command}
-use Rattle.menu.specs.declared.Command.the-variants.{Check, Play, Replies, Help}
+use Rattle.menu.specs.declared.Command.the-variants.{Check, Play, Read, Write, Replies, Help}
 use Rattle.menu.specs.declared.table.Lookup.the-variants.{Known}
 use Rattle.menu.specs.Table.{rowOf, commands, count, usageWidth, namedIn, commandNamed}
 
@@ -20,6 +20,8 @@ pub name-found : (c : Command) → commandNamed (rowOf c .name) ≡ Known c
 unfolding commandNamed namedIn commands rowOf same begins pick every
 name-found Check = refl
 name-found Play = refl
+name-found Read = refl
+name-found Write = refl
 name-found Replies = refl
 name-found Help = refl
 
@@ -31,6 +33,8 @@ pub usage-apart : (c : Command) → length (rowOf c .usage) < usageWidth
 unfolding rowOf
 usage-apart Check = omega arith
 usage-apart Play = omega arith
+usage-apart Read = omega arith
+usage-apart Write = omega arith
 usage-apart Replies = omega arith
 usage-apart Help = omega arith
 

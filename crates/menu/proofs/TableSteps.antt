@@ -13,7 +13,7 @@ use Rattle.ascii.specs.Words.{same}
 use Rattle.ascii.specs.Laying.{Laid}
 use Rattle.ascii.proofs.LayLaws.{laid-join}
 use Rattle.menu.specs.declared.Command.{Command}
-use Rattle.menu.specs.declared.Command.the-variants.{Check, Play, Replies, Help}
+use Rattle.menu.specs.declared.Command.the-variants.{Check, Play, Read, Write, Replies, Help}
 use Rattle.menu.specs.declared.table.Marks.{Marks}
 use Rattle.menu.specs.declared.table.Lookup.{Lookup}
 use Rattle.menu.specs.declared.table.Lookup.the-variants.{Known, Unknown}
@@ -22,9 +22,9 @@ use Rattle.menu.specs.Rows.{Holds, rowWith}
 
 -- ---- a row laid
 
-module _ {o m₁ m₂ n name usage help : List ℕ} {a b e : ℕ} (least most : ℕ) where
+module _ {o m₁ m₂ n name usage help : List ℕ} {a b e : ℕ} (least most reads : ℕ) where
   pub lay-row : length name ≤ nameWidth → length usage < usageWidth → length help ≤ helpWidth → Laid o 0 name m₁ a → Laid m₁ a usage m₂ b → Laid m₂ b help n e
-      → Holds o (rowWith name usage help least most) n (record { name = a; usage = b; help = e; least = least; most = most })
+      → Holds o (rowWith name usage help least most reads) n (record { name = a; usage = b; help = e; least = least; most = most; reads = reads })
   lay-row bn bu bh p q s =
       record {
         laid = laid-join o m₁ n _ _ 0 a e p (laid-join m₁ m₂ n _ _ a b e q s);
@@ -33,6 +33,7 @@ module _ {o m₁ m₂ n name usage help : List ℕ} {a b e : ℕ} (least most : 
         help = s .stop;
         least = refl;
         most = refl;
+        reads = refl;
         brief = bn;
         narrow = bu;
         short = bh;
@@ -95,15 +96,23 @@ pub second-command : (i : ℕ) → i ≡ 1 → drop i commands ≡ Play ∷ drop
 unfolding commands
 second-command i e = rw e
 
-pub third-command : (i : ℕ) → i ≡ 2 → drop i commands ≡ Replies ∷ drop (i + 1) commands
+pub third-command : (i : ℕ) → i ≡ 2 → drop i commands ≡ Read ∷ drop (i + 1) commands
 unfolding commands
 third-command i e = rw e
 
-pub last-command : (i : ℕ) → (i ≡ 0 → ⊥) → (i ≡ 1 → ⊥) → (i ≡ 2 → ⊥) → i < count → drop i commands ≡ Help ∷ drop (i + 1) commands
+pub fourth-command : (i : ℕ) → i ≡ 3 → drop i commands ≡ Write ∷ drop (i + 1) commands
 unfolding commands
-last-command i p q s l = let e : i ≡ 3 = omega arith in rw e
+fourth-command i e = rw e
 
-pub ruleset listed = (first-command, second-command, third-command, last-command, needs)
+pub fifth-command : (i : ℕ) → i ≡ 4 → drop i commands ≡ Replies ∷ drop (i + 1) commands
+unfolding commands
+fifth-command i e = rw e
+
+pub last-command : (i : ℕ) → (i ≡ 0 → ⊥) → (i ≡ 1 → ⊥) → (i ≡ 2 → ⊥) → (i ≡ 3 → ⊥) → (i ≡ 4 → ⊥) → i < count → drop i commands ≡ Help ∷ drop (i + 1) commands
+unfolding commands
+last-command i p q s t u l = let e : i ≡ 5 = omega arith in rw e
+
+pub ruleset listed = (first-command, second-command, third-command, fourth-command, fifth-command, last-command, needs)
 
 -- ---- looked up
 

@@ -34,7 +34,7 @@ unfoldable pub helpHead : List ℕ
 helpHead = bytesOf "usage: bin/poolmirror COMMAND ARGS\n\n"
 
 unfoldable pub helpEnd : List ℕ
-helpEnd = bytesOf "\nA name of a file may be - for standard input. Before a name that begins with a dash write --\nStatus: 0 done, 1 refused, 2 wrong usage, or something can't be read or written\ndocs/POOLMIRROR.md says more, and docs/PLAY.md which commands play reads.\n"
+helpEnd = bytesOf "\nA name of a file may be - for standard input, or for standard output where one is written. Before a name that begins with a dash write --\nStatus: 0 done, 1 refused, 2 wrong usage, or something can't be read or written\ndocs/POOLMIRROR.md says more, and docs/PLAY.md which commands play reads.\n"
 
 -- All of it, for the commands of the table.
 unfoldable pub helpText : List ℕ
@@ -45,7 +45,7 @@ abbrev pub headRoom : ℕ
 headRoom = 36
 
 abbrev pub endRoom : ℕ
-endRoom = 256
+endRoom = 320
 
 abbrev pub helpRoom : ℕ
 helpRoom = 2048

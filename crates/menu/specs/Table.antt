@@ -5,17 +5,18 @@ use Rattle.base.specs.Tests.{pick}
 use Rattle.ascii.specs.Text.{bytesOf}
 use Rattle.ascii.specs.Words.{same}
 use Rattle.menu.specs.declared.Command.{Command}
-use Rattle.menu.specs.declared.Command.the-variants.{Check, Play, Replies, Help}
+use Rattle.menu.specs.declared.Command.the-variants.{Check, Play, Read, Write, Replies, Help}
 use Rattle.menu.specs.declared.table.Lookup.{Lookup}
 use Rattle.menu.specs.declared.table.Lookup.the-variants.{Known, Unknown}
 
--- A command's name, how it is used, what it is for, and how many names it takes.
+-- A command's name, how it is used, what it is for, how many names it takes, and how many of them are read: the others are written.
 pub record Row : Type 0 where
   pub name : List ℕ
   pub usage : List ℕ
   pub help : List ℕ
   pub least : ℕ
   pub most : ℕ
+  pub reads : ℕ
 
 -- As many as there may be.
 abbrev pub anyNumber : ℕ
@@ -30,6 +31,7 @@ rowOf Check =
       help = bytesOf "says of each file what is in it, or why it is refused";
       least = 1;
       most = anyNumber;
+      reads = anyNumber;
     }
 rowOf Play =
     record {
@@ -38,16 +40,35 @@ rowOf Play =
       help = bytesOf "plays a score by commands, and prints what the electronics are sent";
       least = 2;
       most = 2;
+      reads = 2;
     }
-rowOf Replies = record { name = bytesOf "replies"; usage = bytesOf "replies"; help = bytesOf "lists the reply numbers with their words"; least = 0; most = 0 }
-rowOf Help = record { name = bytesOf "help"; usage = bytesOf "help"; help = bytesOf "lists the commands"; least = 0; most = 0 }
+rowOf Read =
+    record {
+      name = bytesOf "read";
+      usage = bytesOf "read TEXT FILE";
+      help = bytesOf "reads a score that is written as text, and makes its file";
+      least = 2;
+      most = 2;
+      reads = 1;
+    }
+rowOf Write =
+    record {
+      name = bytesOf "write";
+      usage = bytesOf "write FILE TEXT";
+      help = bytesOf "writes a score as text, to be read, corrected and sent back";
+      least = 2;
+      most = 2;
+      reads = 1;
+    }
+rowOf Replies = record { name = bytesOf "replies"; usage = bytesOf "replies"; help = bytesOf "lists the reply numbers with their words"; least = 0; most = 0; reads = 0 }
+rowOf Help = record { name = bytesOf "help"; usage = bytesOf "help"; help = bytesOf "lists the commands"; least = 0; most = 0; reads = 0 }
 
 -- The order in which they are listed.
 unfoldable pub commands : List Command
-commands = Check ∷ Play ∷ Replies ∷ Help ∷ []
+commands = Check ∷ Play ∷ Read ∷ Write ∷ Replies ∷ Help ∷ []
 
 abbrev pub count : ℕ
-count = 4
+count = 6
 
 -- How wide a row's texts are at most, a usage one less, and room for all three.
 abbrev pub nameWidth : ℕ

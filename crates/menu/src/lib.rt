@@ -12,6 +12,8 @@ mod table;
 pub enum Command {
     Check,
     Play,
+    Read,
+    Write,
     Replies,
     Help,
 }

@@ -73,7 +73,7 @@ fn put_end(out: &mut [u8], at: usize) -> usize
     put_bytes(
         out,
         at,
-        b"\nA name of a file may be - for standard input. Before a name that begins with a dash write --\nStatus: 0 done, 1 refused, 2 wrong usage, or something can't be read or written\ndocs/POOLMIRROR.md says more, and docs/PLAY.md which commands play reads.\n",
+        b"\nA name of a file may be - for standard input, or for standard output where one is written. Before a name that begins with a dash write --\nStatus: 0 done, 1 refused, 2 wrong usage, or something can't be read or written\ndocs/POOLMIRROR.md says more, and docs/PLAY.md which commands play reads.\n",
     )
 }
 

@@ -14,18 +14,19 @@ use ascii::same;
 pub const ROW_ROOM: usize = 136;
 
 // How many commands there are.
-pub const COUNT: usize = 4;
+pub const COUNT: usize = 6;
 
 // As many names as there may be.
 const ANY_NUMBER: usize = 18446744073709551615;
 
-// A row whose texts stand in lent bytes one behind the other: where each ends, and how many names the command takes.
+// A row whose texts stand in lent bytes one behind the other: where each ends, how many names the command takes, and how many of them are read.
 pub struct Marks {
     pub name: usize,
     pub usage: usize,
     pub help: usize,
     pub least: usize,
     pub most: usize,
+    pub reads: usize,
 }
 
 // The command that a name is the name of.
@@ -42,9 +43,10 @@ fn lay_row(
     help: &[u8],
     least: usize,
     most: usize,
+    reads: usize,
 ) -> Marks
     requires { ⌜ (rowRoom ≤ length (now out)) × (length (now name) ≤ nameWidth) × (length (now usage) < usageWidth) × (length (now help) ≤ helpWidth) ⌝ }
-    ensures { λ r. ⌜ Holds (now (out .entry)) (rowWith (now (name .entry)) (now (usage .entry)) (now (help .entry)) least most) (now (out .exit)) r ⌝ }
+    ensures { λ r. ⌜ Holds (now (out .entry)) (rowWith (now (name .entry)) (now (usage .entry)) (now (help .entry)) least most reads) (now (out .exit)) r ⌝ }
 {
     let named = put_bytes(out, 0, name);
     let used = put_bytes(out, named, usage);
@@ -55,6 +57,7 @@ fn lay_row(
         help: helped,
         least: least,
         most: most,
+        reads: reads,
     }
 }
 
@@ -71,6 +74,7 @@ pub fn put_row(out: &mut [u8], c: Command) -> Marks
             b"says of each file what is in it, or why it is refused",
             1,
             ANY_NUMBER,
+            ANY_NUMBER,
         ),
         Command::Play => lay_row(
             out,
@@ -79,6 +83,25 @@ pub fn put_row(out: &mut [u8], c: Command) -> Marks
             b"plays a score by commands, and prints what the electronics are sent",
             2,
             2,
+            2,
+        ),
+        Command::Read => lay_row(
+            out,
+            b"read",
+            b"read TEXT FILE",
+            b"reads a score that is written as text, and makes its file",
+            2,
+            2,
+            1,
+        ),
+        Command::Write => lay_row(
+            out,
+            b"write",
+            b"write FILE TEXT",
+            b"writes a score as text, to be read, corrected and sent back",
+            2,
+            2,
+            1,
         ),
         Command::Replies => lay_row(
             out,
@@ -87,8 +110,9 @@ pub fn put_row(out: &mut [u8], c: Command) -> Marks
             b"lists the reply numbers with their words",
             0,
             0,
+            0,
         ),
-        Command::Help => lay_row(out, b"help", b"help", b"lists the commands", 0, 0),
+        Command::Help => lay_row(out, b"help", b"help", b"lists the commands", 0, 0, 0),
     }
 }
 
@@ -100,7 +124,9 @@ pub fn command_at(i: usize) -> Command
     match i {
         0 => Command::Check,
         1 => Command::Play,
-        2 => Command::Replies,
+        2 => Command::Read,
+        3 => Command::Write,
+        4 => Command::Replies,
         _ => Command::Help,
     }
 }

@@ -19,7 +19,7 @@ use Rattle.orders.specs.declared.Usage.{Usage}
 use Rattle.orders.specs.declared.Usage.the-variants.{Right, TooFew, TooMany, InputTwice}
 use Rattle.orders.specs.declared.Names.{Names}
 use Rattle.orders.specs.declared.Order.{Order}
-use Rattle.orders.specs.Usage.{dash, argumentOf, isName, noNames, nameMore, fresh, stopped, isRight, begunNamed, begunAs, begun, named, nameTaken, takenPlain, takenAs, taken, closed, takenAll, ordered}
+use Rattle.orders.specs.Usage.{dash, argumentOf, isName, noNames, nameMore, fresh, stopped, isRight, begunNamed, begunAs, begun, named, nameTaken, takenPlain, takenAs, taken, closed, takenAll, ordered, isInput}
 use Rattle.orders.specs.Names.{plainAfter, withName, namesAt}
 use Rattle.orders.proofs.OrderLaws.{fault-all}
 use Rattle.orders.proofs.RightLaws.{more-counted, right-is}
@@ -38,7 +38,7 @@ record Step (o p : Order) (i : ℕ) (a : Argument) : Type 0 where
 module _ (o : Order) (i : ℕ) (arg : List ℕ) where
   step-name : isRight (nameTaken o i arg .usage) ≡ true → Step o (nameTaken o i arg) i Name
   unfolding nameTaken pick stopped named isRight allMore withName isName plainAfter
-  step-name = go (leb (rowOf (o .command) .most) (o .names .count)) (same dash arg) (leb 1 (o .inputs)) where
+  step-name = go (leb (rowOf (o .command) .most) (o .names .count)) (isInput o arg) (leb 1 (o .inputs)) where
     go : (t s u : Bool)
         → isRight (pick t (stopped o TooMany i) (pick s (pick u (stopped o InputTwice i) (named o i (o .inputs + 1))) (named o i (o .inputs))) .usage) ≡ true
         → Step o (pick t (stopped o TooMany i) (pick s (pick u (stopped o InputTwice i) (named o i (o .inputs + 1))) (named o i (o .inputs)))) i Name

@@ -19,7 +19,7 @@ use Rattle.orders.specs.declared.Order.{Order}
 use Rattle.menu.specs.declared.table.Lookup.{Lookup}
 use Rattle.menu.specs.declared.table.Lookup.the-variants.{Known, Unknown}
 use Rattle.menu.specs.Table.{rowOf, commandNamed}
-use Rattle.orders.specs.Usage.{dash, argumentOf, noNames, nameMore, fresh, stopped, isRight, begunNamed, begunAs, begun, named, nameTaken, takenPlain, takenAs, taken, closed, takenAll, ordered}
+use Rattle.orders.specs.Usage.{dash, argumentOf, noNames, nameMore, fresh, stopped, isRight, begunNamed, begunAs, begun, named, nameTaken, takenPlain, takenAs, taken, closed, takenAll, ordered, isInput}
 
 -- no more names than the command takes, and standard input once at most
 pub record Fitting (o : Order) : Type 0 where
@@ -70,7 +70,7 @@ module _ (o : Order) (f : Fitting o) where
 
   name-fits : (i : ℕ) (arg : List ℕ) → Fitting (nameTaken o i arg)
   unfolding nameTaken pick
-  name-fits i arg = go (leb (rowOf (o .command) .most) (o .names .count)) (same dash arg) (leb 1 (o .inputs)) refl refl where
+  name-fits i arg = go (leb (rowOf (o .command) .most) (o .names .count)) (isInput o arg) (leb 1 (o .inputs)) refl refl where
     go : (t s u : Bool) → leb (rowOf (o .command) .most) (o .names .count) ≡ t → leb 1 (o .inputs) ≡ u
         → Fitting (pick t (stopped o TooMany i) (pick s (pick u (stopped o InputTwice i) (named o i (o .inputs + 1))) (named o i (o .inputs))))
     go true s u e d = stopped-fits TooMany i

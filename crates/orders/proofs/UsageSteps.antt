@@ -1,14 +1,14 @@
 -- What an argument is, and what it makes of an order, in the code's own terms: what the calls told decides the tests of the definition.
 -- Assumes nothing.
 use mathlib.Core.Path.{_≡_, refl, sym, _∙_}
-use mathlib.Core.Bool.{Bool, true, false}
+use mathlib.Core.Bool.{Bool, true, false, not}
 use mathlib.Core.List.{List}
 use Prim.Native.Nat.{ℕ, _+_, _<_, _≤_}
-use lib.Dec.{leb}
+use lib.Dec.{leb, ltb}
 use borrow.Author.Tests.{eq-eqb, ne-eqb, le-leb, lt-leb, lt-ltb, le-ltb}
 use borrow.Author.Needs.{needs}
 use Rattle.base.specs.Tests.{pick}
-use Rattle.base.proofs.TestLaws.{pick-true, pick-false}
+use Rattle.base.proofs.TestLaws.{pick-true, pick-false, every-pass, every-stop, every-last, told-true, told-false}
 use Rattle.ascii.specs.Text.{bytesOf}
 use Rattle.ascii.specs.Words.{begins, same}
 use Rattle.menu.specs.declared.Command.{Command}
@@ -22,7 +22,7 @@ use Rattle.orders.specs.declared.Order.{Order}
 use Rattle.menu.specs.declared.table.Lookup.{Lookup}
 use Rattle.menu.specs.declared.table.Lookup.the-variants.{Known, Unknown}
 use Rattle.menu.specs.Table.{rowOf, commandNamed}
-use Rattle.orders.specs.Usage.{dash, argumentOf, isName, nameMore, fresh, stopped, isRight, begunNamed, begunAs, begun, named, nameTaken, takenPlain, takenAs, taken, closed}
+use Rattle.orders.specs.Usage.{dash, argumentOf, isName, nameMore, fresh, stopped, isRight, begunNamed, begunAs, begun, named, nameTaken, takenPlain, takenAs, taken, closed, isInput}
 
 -- ---- what an argument is
 
@@ -124,13 +124,24 @@ pub ruleset beginning = (right-case, begun-known, begun-unknown, begun-wish, beg
 
 -- ---- one argument more
 
+module _ (o : Order) (arg : List ℕ) (t : Bool) (et : t ≡ same dash arg) where
+  pub input-other : not t ≡ true → false ≡ isInput o arg
+  unfolding isInput
+  input-other p = every-stop _ _ (told-false t _ et p)
+
+  pub input-read : (n : ℕ) → not t ≡ false → n ≡ rowOf (o .command) .reads → ltb (o .names .count) n ≡ isInput o arg
+  unfolding isInput
+  input-read n p e = every-pass _ _ _ (told-true t _ et p) (every-last _ _ (rw e))
+
+pub ruleset dashed = (input-other, input-read, needs)
+
 module _ (o : Order) (i : ℕ) (arg : List ℕ) (r : Order) (most : ℕ) (em : most ≡ rowOf (o .command) .most) where
   pub name-many : most ≤ o .names .count → r ≡ stopped o TooMany i → r ≡ nameTaken o i arg
   unfolding nameTaken
   name-many p e = pick-true _ _ _ _ (rw (← em) (le-leb most (o .names .count) p)) e
 
-  module _ (few : o .names .count < most) (t : Bool) (et : t ≡ same dash arg) where
-    counts : r ≡ pick (same dash arg) (pick (leb 1 (o .inputs)) (stopped o InputTwice i) (named o i (o .inputs + 1))) (named o i (o .inputs)) → r ≡ nameTaken o i arg
+  module _ (few : o .names .count < most) (t : Bool) (et : t ≡ isInput o arg) where
+    counts : r ≡ pick (isInput o arg) (pick (leb 1 (o .inputs)) (stopped o InputTwice i) (named o i (o .inputs + 1))) (named o i (o .inputs)) → r ≡ nameTaken o i arg
     unfolding nameTaken
     counts e = pick-false _ _ _ _ (rw (← em) (lt-leb most (o .names .count) few)) e
 

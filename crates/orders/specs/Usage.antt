@@ -3,7 +3,7 @@ use Prim.Native.Nat.{ℕ, suc, _+_}
 use mathlib.Core.Bool.{Bool, true, false}
 use mathlib.Core.List.{List, [], _∷_}
 use lib.Dec.{eqb, leb, ltb}
-use Rattle.base.specs.Tests.{pick}
+use Rattle.base.specs.Tests.{pick, every}
 use Rattle.ascii.specs.Text.{bytesOf}
 use Rattle.ascii.specs.Words.{begins, same}
 use Rattle.menu.specs.declared.Command.{Command}
@@ -20,7 +20,7 @@ use Rattle.orders.specs.declared.Order.{Order}
 
 -- ---- what an argument is
 
--- Standard input's name. It is also what an option begins with.
+-- The name of standard input and of standard output. It is also what an option begins with.
 abbrev pub dash : List ℕ
 dash = bytesOf "-"
 
@@ -95,11 +95,15 @@ begun arg = begunAs (argumentOf false arg) arg
 unfoldable pub named : Order → (i inputs : ℕ) → Order
 named o i inputs = record { command = o .command; names = nameMore (o .names) i; inputs = inputs; plain = o .plain; usage = o .usage; at = o .at }
 
+-- The name is standard input's: it is `-`, where a file is read. Where one is written it is standard output's.
+unfoldable pub isInput : Order → List ℕ → Bool
+isInput o arg = every (same dash arg ∷ ltb (o .names .count) (rowOf (o .command) .reads) ∷ [])
+
 -- A name, which is argument i: one more than the command takes, and standard input a second time, are faults.
 unfoldable pub nameTaken : Order → (i : ℕ) → List ℕ → Order
 nameTaken o i arg =
     pick (leb (rowOf (o .command) .most) (o .names .count)) (stopped o TooMany i)
-    (pick (same dash arg) (pick (leb 1 (o .inputs)) (stopped o InputTwice i) (named o i (o .inputs + 1))) (named o i (o .inputs)))
+    (pick (isInput o arg) (pick (leb 1 (o .inputs)) (stopped o InputTwice i) (named o i (o .inputs + 1))) (named o i (o .inputs)))
 
 -- The `--`, behind which each argument is a name.
 unfoldable pub takenPlain : Order → Order

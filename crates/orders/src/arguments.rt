@@ -4,7 +4,7 @@ ghost use mathlib.Core.List.{[]};
 ghost use Prim.Native.Nat.{_<_};
 ghost use Rattle.ascii.specs.Words.{same};
 ghost use Rattle.menu.specs.Table.{rowOf, anyNumber};
-ghost use Rattle.orders.specs.Usage.{argumentOf, isName, nameMore, fresh, stopped, isRight, begunNamed, begun, named, nameTaken, takenPlain, takenAs, taken, closed, dash, ordered};
+ghost use Rattle.orders.specs.Usage.{argumentOf, isName, nameMore, fresh, stopped, isRight, begunNamed, begun, named, isInput, nameTaken, takenPlain, takenAs, taken, closed, dash, ordered};
 use crate::Argument;
 use crate::Names;
 use crate::Order;
@@ -32,6 +32,15 @@ fn most(c: Command) -> usize
     let mut text = [0; ROW_ROOM];
     let row = put_row(&mut text, c);
     row.most
+}
+
+// How many of the names are read, the first ones.
+fn reads(c: Command) -> usize
+    ensures { λ r. ⌜ r ≡ rowOf c .reads ⌝ }
+{
+    let mut text = [0; ROW_ROOM];
+    let row = put_row(&mut text, c);
+    row.reads
 }
 
 // What the argument is. Behind `--` each is a name.
@@ -194,6 +203,18 @@ fn named(o: Order, i: usize, inputs: usize) -> Order
     }
 }
 
+// Whether the next name is standard input's.
+fn is_input(o: Order, arg: &[u8]) -> bool
+    ensures { λ r. ⌜ r ≡ isInput o (now (arg .entry)) ⌝ }
+{
+    let c = o.command;
+    let n = o.names;
+    if !same(b"-", arg) {
+        return false;
+    }
+    n.count < reads(c)
+}
+
 // A name: one more than the command takes, or standard input a second time, is a fault.
 fn take_name(o: Order, i: usize, arg: &[u8]) -> Order
     ensures { λ r. ⌜ r ≡ nameTaken o i (now (arg .entry)) ⌝ }
@@ -203,7 +224,7 @@ fn take_name(o: Order, i: usize, arg: &[u8]) -> Order
     if most(c) <= n.count {
         return stopped(o, Usage::TooMany, i);
     }
-    if same(b"-", arg) {
+    if is_input(o, arg) {
         if 1 <= o.inputs {
             return stopped(o, Usage::InputTwice, i);
         }
@@ -268,8 +289,8 @@ pub fn close(o: Order) -> Order
     o
 }
 
-// Whether a name is standard input's.
-pub fn is_input(name: &[u8]) -> bool
+// Whether a name is standard input's or, of a file that is written, standard output's.
+pub fn is_standard(name: &[u8]) -> bool
     ensures { λ r. ⌜ r ≡ same dash (now (name .entry)) ⌝ }
 {
     same(b"-", name)

@@ -1,8 +1,8 @@
 // What `bin/poolmirror COMMAND ARGS` decides from its arguments, and what it tells of them, on lent bytes.
 pub use arguments::begin;
 pub use arguments::close;
-pub use arguments::is_input;
 pub use arguments::is_name;
+pub use arguments::is_standard;
 pub use arguments::nothing;
 pub use arguments::take;
 pub use ending::ending_if;

@@ -67,7 +67,7 @@ fn read_order(arg: &mut [u8]) -> Order {
 fn read_named(name: &[u8], file: &mut [u8]) -> FileRead
     ensures { λ r. ⌜ r .count ≤ length (now (file .exit)) ⌝ }
 {
-    if orders::is_input(name) {
+    if orders::is_standard(name) {
         return disk::read_input(libc::STDIN_FILENO, file);
     }
     disk::read_file(name, file)
@@ -186,7 +186,7 @@ fn unread(name: &[u8], error: i32) -> Ending {
 
 // The commands' descriptor, or -1.
 fn open_commands(name: &[u8]) -> i32 {
-    if orders::is_input(name) {
+    if orders::is_standard(name) {
         return libc::STDIN_FILENO;
     }
     os::open_read(name)

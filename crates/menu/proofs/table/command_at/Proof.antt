@@ -11,4 +11,6 @@ command-at-spec =
     (λ c. search listed)
     (λ c. search listed)
     (λ c. search listed)
+    (λ c. search listed)
+    (λ c. search listed)
     (λ c. search listed))

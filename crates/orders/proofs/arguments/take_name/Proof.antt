@@ -11,7 +11,6 @@ take-name-spec =
     (λ c κs. search counting)
     (λ c κs. search counting)
     (λ c. search counting)
-    (λ c. search counting)
     (λ c κs. search counting)
     (λ c κs. search counting)
     (λ c. search counting)
