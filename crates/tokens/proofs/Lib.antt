@@ -1,1 +1,3 @@
 -- Laws of tokens and each step of the code, for the proofs of several functions and for the crates above.
+pub mod TokenLaws
+pub mod ShorterLaws
