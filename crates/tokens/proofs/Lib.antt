@@ -1,3 +1,6 @@
 -- Laws of tokens and each step of the code, for the proofs of several functions and for the crates above.
 pub mod TokenLaws
 pub mod ShorterLaws
+pub mod BlankSteps
+pub mod PlaceSteps
+pub mod LabelSteps
