@@ -4,3 +4,5 @@ pub mod ShorterLaws
 pub mod BlankSteps
 pub mod PlaceSteps
 pub mod LabelSteps
+pub mod NumberSteps
+pub mod BeatsSteps
