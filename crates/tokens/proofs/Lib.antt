@@ -6,3 +6,5 @@ pub mod PlaceSteps
 pub mod LabelSteps
 pub mod NumberSteps
 pub mod BeatsSteps
+pub mod WordSteps
+pub mod CopySteps
