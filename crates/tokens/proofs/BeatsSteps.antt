@@ -1,21 +1,21 @@
 -- Each way in which a delay is read, in the code's own terms: what the calls told decides.
 -- Assumes nothing.
-use mathlib.Core.Path.{_≡_, refl, sym, ap, _∙_}
+use mathlib.Core.Path.{_≡_, refl, sym, _∙_}
 use mathlib.Core.Bool.{Bool, true, false, not}
 use mathlib.Core.List.{List, [], _∷_}
-use Prim.Native.Nat.{ℕ, suc, _+_, _-_, _*_, _/_, _%_, _^_, _<_, _≤_}
+use Prim.Native.Nat.{ℕ, _+_, _*_, _/_, _%_, _<_, _≤_}
 use native.Mathlib.Omega.{arith}
 use lib.ListN.{length, drop, getD, drop-of-length-le}
 use lib.Dec.{eqb, ltb}
 use borrow.Author.Tests.{lt-ltb, le-ltb, eq-eqb, ne-eqb, ltb-true, not-true, not-false}
 use borrow.Author.Needs.{needs}
-use Rattle.tokens.specs.declared.Token.{Token}
 use Rattle.base.specs.Tests.{pick, every}
+use Rattle.ascii.proofs.WordSteps.{drop-next}
+use Rattle.tokens.specs.declared.Token.{Token}
 use Rattle.tokens.specs.Bytes.{slash}
 use Rattle.tokens.specs.Tokens.{Read, got, stop, onward, number}
 use Rattle.tokens.specs.Beats.{grainsOfABeat, field, isFraction, valued, fraction, beats}
 use Rattle.tokens.specs.Asked.{stopped, valuedAs, asRead, Reads}
-use Rattle.ascii.proofs.WordSteps.{drop-next}
 use Rattle.tokens.proofs.ShorterLaws.{read-got, read-stop}
 
 -- ---- the fraction's tests

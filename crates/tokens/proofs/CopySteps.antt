@@ -3,7 +3,7 @@
 use mathlib.Core.Path.{_≡_, refl, sym, ap, _∙_}
 use mathlib.Core.Bool.{Bool, true, false}
 use mathlib.Core.List.{List, [], _∷_, _++_, append-assoc, append-nil}
-use Prim.Native.Nat.{ℕ, suc, _+_, _<_, _≤_}
+use Prim.Native.Nat.{ℕ, _+_, _<_, _≤_}
 use native.Mathlib.Omega.{arith}
 use lib.ListN.{length, drop, getD, set, length-append, drop-of-length-le}
 use lib.Dec.{leb, eqb}
@@ -14,11 +14,9 @@ use Rattle.ascii.specs.Words.{newline}
 use Rattle.ascii.specs.Laying.{Laid}
 use Rattle.ascii.proofs.WordSteps.{drop-next}
 use Rattle.ascii.proofs.LayLaws.{laid-nothing, laid-byte, laid-join}
-use Rattle.tokens.specs.declared.Token.{Token}
 use Rattle.tokens.specs.Bytes.{quote, backslash, isEscaped}
 use Rattle.tokens.specs.Tokens.{Read, got, stop, withByte, labelFrom, label, isRead, bytesIn}
-use Rattle.tokens.specs.Asked.{sizedFrom, Sizes, Copyable}
-use Rattle.tokens.proofs.ShorterLaws.{read-got}
+use Rattle.tokens.specs.Asked.{Copyable}
 
 -- ---- a label that is there, byte by byte
 
@@ -157,4 +155,4 @@ module _ (t : List ℕ) (at : ℕ) (o : List ℕ) (to : ℕ) (out : List ℕ) (i
       pub copy-escape : Copying t at o to (set out next (getD t (i + 1) 0)) (i + 1 + 1) (next + 1)
       copy-escape = byte-copied (getD t (i + 1) 0) (i + 1 + 1) escaped
 
-pub ruleset copying = (copy-at, copy-start, copy-done, copy-fits, copy-byte, copy-more, copy-escape-fits, copy-escape, needs)
+pub ruleset copying = (copy-start, copy-done, copy-fits, copy-byte, needs)

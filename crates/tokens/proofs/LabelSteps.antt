@@ -1,6 +1,6 @@
 -- Each step of reading a label, in the code's own terms. The invariant: the bytes so far and those left are the label's.
 -- Assumes nothing.
-use mathlib.Core.Path.{_≡_, refl, sym, ap, _∙_}
+use mathlib.Core.Path.{_≡_, refl, sym, _∙_}
 use mathlib.Core.Bool.{Bool, true, false, not}
 use mathlib.Core.List.{List, [], _∷_}
 use Prim.Native.Nat.{ℕ, suc, _+_, _-_, _<_, _≤_}
@@ -9,14 +9,14 @@ use lib.ListN.{length, drop, getD, drop-of-length-le}
 use lib.Dec.{eqb}
 use borrow.Author.Tests.{eq-eqb, ne-eqb}
 use borrow.Author.Needs.{needs}
-use Rattle.tokens.specs.declared.Token.{Token}
 use Rattle.base.specs.Tests.{pick}
+use Rattle.base.proofs.TestLaws.{told-true, told-false}
 use Rattle.ascii.specs.Words.{newline}
+use Rattle.ascii.proofs.WordSteps.{drop-next}
+use Rattle.tokens.specs.declared.Token.{Token}
 use Rattle.tokens.specs.Bytes.{quote, backslash, isEscaped}
 use Rattle.tokens.specs.Tokens.{Read, got, stop, withByte, labelFrom, label}
 use Rattle.tokens.specs.Asked.{stopped, asRead, sizedFrom, Sizes}
-use Rattle.base.proofs.TestLaws.{told-true, told-false}
-use Rattle.ascii.proofs.WordSteps.{drop-next}
 
 pub escaped-quote : (b : ℕ) → b ≡ quote → true ≡ isEscaped b
 unfolding isEscaped pick

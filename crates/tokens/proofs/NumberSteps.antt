@@ -17,7 +17,7 @@ use Rattle.ascii.proofs.WordSteps.{drop-next}
 use Rattle.ascii.proofs.NumberSteps.{sum-step, ten-fits, sum-fits}
 use Rattle.tokens.specs.declared.Token.{Token}
 use Rattle.tokens.specs.Bytes.{isDigit, Stops, nothing, here}
-use Rattle.tokens.specs.Tokens.{Read, got, stop, leading, behind, isNumber, number}
+use Rattle.tokens.specs.Tokens.{got, stop, leading, behind, isNumber, number}
 use Rattle.tokens.specs.Asked.{stopped, endedAs, asRead, Reads}
 use Rattle.tokens.proofs.TokenLaws.{none-leads, none-behind}
 

@@ -1,7 +1,7 @@
 -- Each byte passed, in the code's own terms. The invariant: the bytes left lead from here to where all of them lead.
 -- Assumes nothing.
 use mathlib.Core.Path.{_≡_, refl}
-use mathlib.Core.List.{List, [], _∷_}
+use mathlib.Core.List.{List}
 use Prim.Native.Nat.{ℕ, _+_, _<_, _≤_}
 use native.Mathlib.Omega.{arith}
 use lib.ListN.{length, drop, getD, drop-of-length-le}
@@ -9,9 +9,8 @@ use borrow.Author.Tests.{eq-eqb, ne-eqb}
 use borrow.Author.Needs.{needs}
 use Rattle.base.specs.Tests.{pick}
 use Rattle.ascii.specs.Words.{newline}
-use Rattle.tokens.specs.declared.Place.{Place}
-use Rattle.tokens.specs.Places.{placeFrom, placeBehind}
 use Rattle.ascii.proofs.WordSteps.{drop-next}
+use Rattle.tokens.specs.Places.{placeFrom, placeBehind}
 
 pub record Placing (bs : List ℕ) (line column i : ℕ) : Type 0 where
   pub rest : placeFrom line column (drop i bs) ≡ placeBehind bs

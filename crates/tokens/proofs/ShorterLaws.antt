@@ -3,14 +3,14 @@
 use mathlib.Core.Path.{_≡_, refl, sym, ap, _∙_}
 use mathlib.Core.Bool.{Bool, true, false, not}
 use mathlib.Core.List.{List, [], _∷_}
-use Prim.Native.Nat.{ℕ, suc, _+_, _-_, _*_, _/_, _<_, _≤_}
+use Prim.Native.Nat.{ℕ, suc, _+_, _*_, _/_, _<_, _≤_}
 use native.Mathlib.Omega.{arith}
 use lib.ListN.{length, drop, length-drop}
 use lib.Dec.{eqb}
 use borrow.Author.Tests.{not-false}
 use Rattle.base.specs.Tests.{pick}
 use Rattle.base.proofs.TestLaws.{every-head, between-low}
-use Rattle.ascii.specs.Words.{newline, same}
+use Rattle.ascii.specs.Words.{newline}
 use Rattle.ascii.specs.Numbers.{mostDigits, value}
 use Rattle.ascii.proofs.WordLaws.{same-bytes}
 use Rattle.tokens.specs.declared.Token.{Token}

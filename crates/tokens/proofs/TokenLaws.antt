@@ -1,22 +1,22 @@
 -- What is written of a token is read there again, and blanks are passed.
 -- Assumes nothing.
-use mathlib.Core.Path.{_≡_, refl, sym, ap, _∙_}
-use mathlib.Core.Bool.{Bool, true, false, not}
+use mathlib.Core.Path.{_≡_, refl}
+use mathlib.Core.Bool.{Bool, true, false}
 use mathlib.Core.List.{List, [], _∷_, _++_}
 use Prim.Native.Nat.{ℕ, zero, suc, _+_, _-_, _/_, _%_, _^_, _<_, _≤_}
 use native.Mathlib.Nat.{pow-le-pow-right}
 use native.Mathlib.Omega.{arith}
 use lib.ListN.{length, replicate, length-append}
 use lib.Dec.{ltb, eqb}
-use borrow.Author.Tests.{lt-ltb, ltb-true, ltb-false, ne-eqb, not-true}
+use borrow.Author.Tests.{lt-ltb, ltb-false, ne-eqb, not-true}
 use Rattle.base.specs.Tests.{pick, every, between}
 use Rattle.base.proofs.TestLaws.{every-head, every-rest, between-in, between-low}
 use Rattle.ascii.specs.Words.{newline, space, zeroDigit, nineDigit, same}
 use Rattle.ascii.specs.Numbers.{mostDigits, allDigits}
 use Rattle.ascii.specs.Decimals.{mostPlaces, digitsOf, decimal}
-use Rattle.ascii.proofs.DecimalLaws.{digits-one, digits-more, fewer, second-place, decimal-value, decimal-digits}
+use Rattle.ascii.proofs.DecimalLaws.{fewer, second-place, decimal-value, decimal-digits}
 use Rattle.tokens.specs.Bytes.{hash, slash, quote, backslash, isBlank, isDigit, isLetter, isPlain, isEscaped, All, none, one, Stops, nothing, here}
-use Rattle.tokens.specs.Tokens.{Read, got, stop, pastBlanks, blanks, leading, behind, isWord, isNumber, number, withByte, labelFrom, label}
+use Rattle.tokens.specs.Tokens.{got, pastBlanks, blanks, leading, behind, isWord, isNumber, number, withByte, labelFrom, label}
 use Rattle.tokens.specs.Quoted.{escaped, quoted}
 
 -- ---- bytes of one kind, and a front that is of another

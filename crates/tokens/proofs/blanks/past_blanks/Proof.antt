@@ -2,8 +2,7 @@
 -- Assumes nothing.
 use Prim.Native.Nat.{_-_}
 use lib.ListN.{length}
-use Rattle.tokens.proofs.BlankSteps.{InBlanks}
-use Rattle.tokens.proofs.BlankSteps.{passing}
+use Rattle.tokens.proofs.BlankSteps.{InBlanks, passing}
 use Rattle.tokens.proofs.blanks.past_blanks.Statement.{statement}
 use Rattle.tokens.proofs.blanks.past_blanks.Tie as tie
 

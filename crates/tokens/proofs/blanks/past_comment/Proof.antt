@@ -2,8 +2,7 @@
 -- Assumes nothing.
 use Prim.Native.Nat.{_-_}
 use lib.ListN.{length}
-use Rattle.tokens.proofs.BlankSteps.{InComment}
-use Rattle.tokens.proofs.BlankSteps.{commenting}
+use Rattle.tokens.proofs.BlankSteps.{InComment, commenting}
 use Rattle.tokens.proofs.blanks.past_comment.Statement.{statement}
 use Rattle.tokens.proofs.blanks.past_comment.Tie as tie
 

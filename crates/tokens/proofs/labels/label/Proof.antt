@@ -2,8 +2,7 @@
 -- Assumes nothing.
 use Prim.Native.Nat.{_-_}
 use lib.ListN.{length}
-use Rattle.tokens.proofs.LabelSteps.{Labelled}
-use Rattle.tokens.proofs.LabelSteps.{labels}
+use Rattle.tokens.proofs.LabelSteps.{Labelled, labels}
 use Rattle.tokens.proofs.labels.label.Statement.{statement}
 use Rattle.tokens.proofs.labels.label.Tie as tie
 

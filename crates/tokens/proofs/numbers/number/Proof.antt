@@ -2,8 +2,7 @@
 -- Assumes nothing.
 use Prim.Native.Nat.{_+_, _-_}
 use lib.ListN.{length}
-use Rattle.tokens.proofs.NumberSteps.{Digits}
-use Rattle.tokens.proofs.NumberSteps.{numbers}
+use Rattle.tokens.proofs.NumberSteps.{Digits, numbers}
 use Rattle.tokens.proofs.numbers.number.Statement.{statement}
 use Rattle.tokens.proofs.numbers.number.Tie as tie
 

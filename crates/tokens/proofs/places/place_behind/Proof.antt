@@ -2,8 +2,7 @@
 -- Assumes nothing.
 use Prim.Native.Nat.{_-_}
 use lib.ListN.{length}
-use Rattle.tokens.proofs.PlaceSteps.{Placing}
-use Rattle.tokens.proofs.PlaceSteps.{placing}
+use Rattle.tokens.proofs.PlaceSteps.{Placing, placing}
 use Rattle.tokens.proofs.places.place_behind.Statement.{statement}
 use Rattle.tokens.proofs.places.place_behind.Tie as tie
 

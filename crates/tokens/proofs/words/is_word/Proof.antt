@@ -2,8 +2,7 @@
 -- Assumes nothing.
 use Prim.Native.Nat.{_-_}
 use lib.ListN.{length}
-use Rattle.tokens.proofs.WordSteps.{Compared}
-use Rattle.tokens.proofs.WordSteps.{wording, word-step}
+use Rattle.tokens.proofs.WordSteps.{Compared, wording, word-step}
 use Rattle.tokens.proofs.words.is_word.Statement.{statement}
 use Rattle.tokens.proofs.words.is_word.Tie as tie
 
