@@ -1,0 +1,2 @@
+-- Laws of the text form.
+mod ReplySteps
