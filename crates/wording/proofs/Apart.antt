@@ -1,4 +1,4 @@
--- No two rows of the reply table have the same words: looked up in the list of all of them, a refusal's words are found at its own row.
+-- No two rows of the reply table have the same words: looked up in the list of all of them, a row's words are found at its own place.
 -- Assumes nothing.
 use mathlib.Core.Path.{_≡_, refl, sym, ap, _∙_}
 use mathlib.Core.List.{List, [], _∷_, map}
@@ -9,31 +9,42 @@ use Rattle.contents.specs.declared.Fault.{Fault}
 use Rattle.contents.specs.declared.Fault.the-variants.{FileShort, BadCount, BadOffset, BadLength, BadEvent, BadItem, BadMessage, TextLeft, NoMessage}
 use Rattle.session.specs.declared.Refusal.{Refusal}
 use Rattle.session.specs.declared.Refusal.the-variants.{MemoryShort, RoomShort, File, BadTempo, NoSession, NoEvent, NotAfter, BadMillis, ClockFull}
-use Rattle.wording.specs.Words.{faultWords, refusalWords, refusalRows}
+use Rattle.text.specs.declared.Transcript.{Transcript}
+use Rattle.text.specs.declared.Transcript.the-variants.{Made, NoRoom, BadText, BadFile}
+use Rattle.wording.specs.declared.Row.{Row}
+use Rattle.wording.specs.declared.Row.the-variants.{Call, Text}
+use Rattle.wording.specs.Words.{faultWords, refusalWords, transcriptWords, doneWords, rowWords, replyRows}
 
--- ---- the rows, in the table's order
+-- ---- the rows, in the table's order: 0 is "done"
 
 unfoldable pub faultRowAt : Fault → ℕ
-faultRowAt FileShort = 2
-faultRowAt (BadCount at) = 3
-faultRowAt (BadOffset at) = 4
-faultRowAt BadLength = 5
-faultRowAt (BadEvent at) = 6
-faultRowAt (BadItem at) = 7
-faultRowAt (BadMessage at) = 8
-faultRowAt TextLeft = 9
-faultRowAt NoMessage = 16
+faultRowAt FileShort = 4
+faultRowAt (BadCount at) = 5
+faultRowAt (BadOffset at) = 6
+faultRowAt BadLength = 7
+faultRowAt (BadEvent at) = 8
+faultRowAt (BadItem at) = 9
+faultRowAt (BadMessage at) = 10
+faultRowAt TextLeft = 11
+faultRowAt NoMessage = 18
 
-unfoldable pub rowAt : Refusal → ℕ
-rowAt MemoryShort = 0
-rowAt RoomShort = 1
-rowAt (File x) = faultRowAt x
-rowAt BadTempo = 10
-rowAt NoSession = 11
-rowAt NoEvent = 12
-rowAt NotAfter = 13
-rowAt BadMillis = 14
-rowAt ClockFull = 15
+unfoldable pub refusalRowAt : Refusal → ℕ
+refusalRowAt MemoryShort = 1
+refusalRowAt RoomShort = 2
+refusalRowAt (File x) = faultRowAt x
+refusalRowAt BadTempo = 12
+refusalRowAt NoSession = 13
+refusalRowAt NoEvent = 14
+refusalRowAt NotAfter = 15
+refusalRowAt BadMillis = 16
+refusalRowAt ClockFull = 17
+
+unfoldable pub rowAt : Row → ℕ
+rowAt (Call x) = refusalRowAt x
+rowAt (Text (Made n)) = 0
+rowAt (Text NoRoom) = 3
+rowAt (Text (BadText l c)) = 19
+rowAt (Text (BadFile x)) = faultRowAt x
 
 -- ---- looked up
 
@@ -43,10 +54,10 @@ foundAt [] bytes = 0
 foundAt (w ∷ ws) bytes = pick (begins w bytes) 0 (suc (foundAt ws bytes))
 
 unfoldable lookedUp : List ℕ → ℕ
-lookedUp bytes = foundAt (map refusalWords refusalRows) bytes
+lookedUp bytes = foundAt (doneWords ∷ map rowWords replyRows) bytes
 
 fault-found : (x : Fault) → lookedUp (faultWords x) ≡ faultRowAt x
-unfolding lookedUp foundAt refusalRows faultRowAt refusalWords faultWords begins pick
+unfolding lookedUp foundAt replyRows rowWords faultRowAt refusalWords transcriptWords faultWords begins pick
 fault-found FileShort = refl
 fault-found (BadCount at) = refl
 fault-found (BadOffset at) = refl
@@ -57,17 +68,25 @@ fault-found (BadMessage at) = refl
 fault-found TextLeft = refl
 fault-found NoMessage = refl
 
-words-found : (x : Refusal) → lookedUp (refusalWords x) ≡ rowAt x
-unfolding lookedUp foundAt refusalRows rowAt refusalWords faultWords begins pick
-words-found MemoryShort = refl
-words-found RoomShort = refl
-words-found (File x) = fault-found x
-words-found BadTempo = refl
-words-found NoSession = refl
-words-found NoEvent = refl
-words-found NotAfter = refl
-words-found BadMillis = refl
-words-found ClockFull = refl
+refusal-found : (x : Refusal) → lookedUp (refusalWords x) ≡ refusalRowAt x
+unfolding lookedUp foundAt replyRows rowWords refusalRowAt refusalWords transcriptWords faultWords begins pick
+refusal-found MemoryShort = refl
+refusal-found RoomShort = refl
+refusal-found (File x) = fault-found x
+refusal-found BadTempo = refl
+refusal-found NoSession = refl
+refusal-found NoEvent = refl
+refusal-found NotAfter = refl
+refusal-found BadMillis = refl
+refusal-found ClockFull = refl
 
-pub words-apart : (x y : Refusal) → refusalWords x ≡ refusalWords y → rowAt x ≡ rowAt y
+words-found : (x : Row) → lookedUp (rowWords x) ≡ rowAt x
+unfolding lookedUp foundAt replyRows rowWords rowAt refusalWords transcriptWords faultWords begins pick
+words-found (Call x) = refusal-found x
+words-found (Text (Made n)) = refl
+words-found (Text NoRoom) = refl
+words-found (Text (BadText l c)) = refl
+words-found (Text (BadFile x)) = fault-found x
+
+pub words-apart : (x y : Row) → rowWords x ≡ rowWords y → rowAt x ≡ rowAt y
 words-apart x y e = sym (words-found x) ∙ ap lookedUp e ∙ words-found y

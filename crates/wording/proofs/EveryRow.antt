@@ -1,7 +1,7 @@
--- No refusal of any call is without a row in the reply table: its row stands there, with its number and its words. And the numbers of the rows are those of document 01's table.
+-- No reply of any call, and none of a text, is without a row in the reply table: its row stands there, with its number and its words. And the numbers of the rows are those of document 01's table and of document 02.
 -- Assumes nothing.
 use mathlib.Core.Path.{_≡_, refl}
-use mathlib.Core.List.{[], _∷_, map}
+use mathlib.Core.List.{List, [], _∷_, map}
 use Prim.Native.Nat.{ℕ, _<_}
 use native.Mathlib.Omega.{arith}
 use lib.ListN.{length, getD}
@@ -11,21 +11,30 @@ use Rattle.contents.specs.declared.Fault.the-variants.{FileShort, BadCount, Bad
 use Rattle.session.specs.Replies.{refusalRow}
 use Rattle.session.specs.declared.Refusal.{Refusal}
 use Rattle.session.specs.declared.Refusal.the-variants.{MemoryShort, RoomShort, File, BadTempo, NoSession, NoEvent, NotAfter, BadMillis, ClockFull}
-use Rattle.wording.specs.Words.{faultWords, refusalWords, refusalRows, rowCount, doneNumber}
-use Rattle.wording.proofs.Apart.{faultRowAt, rowAt}
+use Rattle.text.specs.declared.Transcript.{Transcript}
+use Rattle.text.specs.declared.Transcript.the-variants.{Made, NoRoom, BadText, BadFile}
+use Rattle.text.specs.Replies.{transcriptRow}
+use Rattle.wording.specs.declared.Row.{Row}
+use Rattle.wording.specs.declared.Row.the-variants.{Call, Text}
+use Rattle.wording.specs.Words.{faultWords, refusalWords, transcriptWords, rowNumber, rowWords, replyRows, rowCount, doneNumber}
+use Rattle.wording.proofs.Apart.{faultRowAt, refusalRowAt, rowAt}
 
--- ---- every refusal has its row
+-- ---- every reply has its row
 
-unfoldable pub listedRow : Refusal → Refusal
-listedRow x = getD refusalRows (rowAt x) MemoryShort
+-- The table, with "done" in front.
+unfoldable pub allRows : List Row
+allRows = Text (Made 0) ∷ replyRows
 
-pub record Listed (x : Refusal) : Type 0 where
-  pub within : rowAt x < length refusalRows
-  pub number : refusalRow (listedRow x) .number ≡ refusalRow x .number
-  pub words : refusalWords (listedRow x) ≡ refusalWords x
+unfoldable pub listedRow : Row → Row
+listedRow x = getD allRows (rowAt x) (Text (Made 0))
 
-fault-listed : (x : Fault) → Listed (File x)
-unfolding listedRow rowAt faultRowAt refusalRows refusalRow faultRow refusalWords faultWords
+pub record Listed (x : Row) : Type 0 where
+  pub within : rowAt x < length allRows
+  pub number : rowNumber (listedRow x) ≡ rowNumber x
+  pub words : rowWords (listedRow x) ≡ rowWords x
+
+fault-listed : (x : Fault) → Listed (Call (File x))
+unfolding listedRow rowAt refusalRowAt faultRowAt allRows replyRows rowNumber refusalRow transcriptRow faultRow rowWords refusalWords transcriptWords faultWords
 fault-listed FileShort = record { within = omega arith; number = refl; words = refl }
 fault-listed (BadCount at) = record { within = omega arith; number = refl; words = refl }
 fault-listed (BadOffset at) = record { within = omega arith; number = refl; words = refl }
@@ -36,28 +45,46 @@ fault-listed (BadMessage at) = record { within = omega arith; number = refl; wor
 fault-listed TextLeft = record { within = omega arith; number = refl; words = refl }
 fault-listed NoMessage = record { within = omega arith; number = refl; words = refl }
 
-pub every-row : (x : Refusal) → Listed x
-unfolding listedRow rowAt refusalRows refusalRow refusalWords
-every-row MemoryShort = record { within = omega arith; number = refl; words = refl }
-every-row RoomShort = record { within = omega arith; number = refl; words = refl }
-every-row (File x) = fault-listed x
-every-row BadTempo = record { within = omega arith; number = refl; words = refl }
-every-row NoSession = record { within = omega arith; number = refl; words = refl }
-every-row NoEvent = record { within = omega arith; number = refl; words = refl }
-every-row NotAfter = record { within = omega arith; number = refl; words = refl }
-every-row BadMillis = record { within = omega arith; number = refl; words = refl }
-every-row ClockFull = record { within = omega arith; number = refl; words = refl }
+-- a text's file is refused as the file is
+file-listed : (x : Fault) → Listed (Text (BadFile x))
+unfolding listedRow rowAt refusalRowAt faultRowAt allRows replyRows rowNumber refusalRow transcriptRow faultRow rowWords refusalWords transcriptWords faultWords
+file-listed FileShort = record { within = omega arith; number = refl; words = refl }
+file-listed (BadCount at) = record { within = omega arith; number = refl; words = refl }
+file-listed (BadOffset at) = record { within = omega arith; number = refl; words = refl }
+file-listed BadLength = record { within = omega arith; number = refl; words = refl }
+file-listed (BadEvent at) = record { within = omega arith; number = refl; words = refl }
+file-listed (BadItem at) = record { within = omega arith; number = refl; words = refl }
+file-listed (BadMessage at) = record { within = omega arith; number = refl; words = refl }
+file-listed TextLeft = record { within = omega arith; number = refl; words = refl }
+file-listed NoMessage = record { within = omega arith; number = refl; words = refl }
+
+refusal-listed : (x : Refusal) → Listed (Call x)
+unfolding listedRow rowAt refusalRowAt faultRowAt allRows replyRows rowNumber refusalRow transcriptRow faultRow rowWords refusalWords transcriptWords faultWords
+refusal-listed MemoryShort = record { within = omega arith; number = refl; words = refl }
+refusal-listed RoomShort = record { within = omega arith; number = refl; words = refl }
+refusal-listed (File x) = fault-listed x
+refusal-listed BadTempo = record { within = omega arith; number = refl; words = refl }
+refusal-listed NoSession = record { within = omega arith; number = refl; words = refl }
+refusal-listed NoEvent = record { within = omega arith; number = refl; words = refl }
+refusal-listed NotAfter = record { within = omega arith; number = refl; words = refl }
+refusal-listed BadMillis = record { within = omega arith; number = refl; words = refl }
+refusal-listed ClockFull = record { within = omega arith; number = refl; words = refl }
+
+pub every-row : (x : Row) → Listed x
+unfolding listedRow rowAt refusalRowAt faultRowAt allRows replyRows rowNumber refusalRow transcriptRow faultRow rowWords refusalWords transcriptWords faultWords
+every-row (Call x) = refusal-listed x
+every-row (Text (Made n)) = record { within = omega arith; number = refl; words = refl }
+every-row (Text NoRoom) = record { within = omega arith; number = refl; words = refl }
+every-row (Text (BadText l c)) = record { within = omega arith; number = refl; words = refl }
+every-row (Text (BadFile x)) = file-listed x
 
 -- ---- the numbers
 
-pub rows-counted : length refusalRows ≡ rowCount
-unfolding refusalRows
+pub rows-counted : length replyRows ≡ rowCount
+unfolding replyRows
 rows-counted = refl
 
-abbrev pub rowNumber : Refusal → ℕ
-rowNumber x = refusalRow x .number
-
--- 5 and 8 have two rows each
-pub every-number : doneNumber ∷ map rowNumber refusalRows ≡ 0 ∷ 1 ∷ 2 ∷ 3 ∷ 4 ∷ 5 ∷ 5 ∷ 6 ∷ 7 ∷ 8 ∷ 8 ∷ 9 ∷ 10 ∷ 11 ∷ 12 ∷ 13 ∷ 14 ∷ 15 ∷ []
-unfolding refusalRows refusalRow faultRow
+-- 2, 5 and 8 have two rows each
+pub every-number : doneNumber ∷ map rowNumber replyRows ≡ 0 ∷ 1 ∷ 2 ∷ 2 ∷ 3 ∷ 4 ∷ 5 ∷ 5 ∷ 6 ∷ 7 ∷ 8 ∷ 8 ∷ 9 ∷ 10 ∷ 11 ∷ 12 ∷ 13 ∷ 14 ∷ 15 ∷ 16 ∷ []
+unfolding replyRows rowNumber refusalRow transcriptRow faultRow
 every-number = refl

@@ -12,7 +12,9 @@ use Rattle.contents.specs.declared.Fault.{Fault}
 use Rattle.contents.specs.declared.Fault.the-variants.{FileShort, BadCount, BadOffset, BadLength, BadEvent, BadItem, BadMessage, TextLeft, NoMessage}
 use Rattle.session.specs.declared.Refusal.{Refusal}
 use Rattle.session.specs.declared.Refusal.the-variants.{MemoryShort, RoomShort, File, BadTempo, NoSession, NoEvent, NotAfter, BadMillis, ClockFull}
-use Rattle.wording.specs.Words.{faultWords, refusalWords, mostWords, faultPlaced, placed}
+use Rattle.text.specs.declared.Transcript.{Transcript}
+use Rattle.text.specs.declared.Transcript.the-variants.{Made, NoRoom, BadText, BadFile}
+use Rattle.wording.specs.Words.{faultWords, refusalWords, transcriptWords, mostWords, faultPlaced, placed}
 
 -- ---- how many bytes the words have
 
@@ -40,6 +42,13 @@ words-told NotAfter = (omega arith, omega arith)
 words-told BadMillis = (omega arith, omega arith)
 words-told ClockFull = (omega arith, omega arith)
 
+pub transcript-told : (t : Transcript) → (0 < length (transcriptWords t)) × (length (transcriptWords t) ≤ mostWords)
+unfolding transcriptWords
+transcript-told (Made n) = (omega arith, omega arith)
+transcript-told NoRoom = (omega arith, omega arith)
+transcript-told (BadText l c) = (omega arith, omega arith)
+transcript-told (BadFile x) = fault-most x
+
 -- ---- the row of a case is the row of what is this case
 
 module _ {o m words : List ℕ} {at r : ℕ} where
@@ -53,6 +62,15 @@ module _ {o m words : List ℕ} {at r : ℕ} where
       let s : r ≡ at + length words = laid .stop in
       (rw (e, p) laid, omega (arith, rw p at (words-told y)))
 
+  pub transcript-case : {x y : Transcript} → x ≡ y → Laid o at words m r → transcriptWords y ≡ words → Laid o at (transcriptWords x) m r × (r ≤ at + mostWords)
+  transcript-case {x} {y} e laid p =
+      let s : r ≡ at + length words = laid .stop in
+      (rw (e, p) laid, omega (arith, rw p at (transcript-told y)))
+
+pub transcript-file : (o m : List ℕ) (at r : ℕ) (t : Transcript) (f : Fault) → t ≡ BadFile f → Laid o at (faultWords f) m r → Laid o at (transcriptWords t) m r
+unfolding transcriptWords
+transcript-file o m at r t f e laid = rw e laid
+
 pub words-file : (o m : List ℕ) (at r : ℕ) (x : Refusal) (f : Fault) → x ≡ File f → Laid o at (faultWords f) m r → Laid o at (refusalWords x) m r
 unfolding refusalWords
 words-file o m at r x f e laid = rw e laid
@@ -63,4 +81,4 @@ fault-placed-case x y r e p = rw e p
 pub placed-case : (x y : Refusal) (r : Bool) → x ≡ y → r ≡ placed y → r ≡ placed x
 placed-case x y r e p = rw e p
 
-pub ruleset rows = (words-file, fault-placed-case, placed-case, needs)
+pub ruleset rows = (words-file, transcript-file, fault-placed-case, placed-case, needs)

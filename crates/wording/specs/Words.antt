@@ -9,6 +9,11 @@ use Rattle.contents.specs.declared.Fault.the-variants.{FileShort, BadCount, Bad
 use Rattle.session.specs.declared.Refusal.{Refusal}
 use Rattle.session.specs.declared.Refusal.the-variants.{MemoryShort, RoomShort, File, BadTempo, NoSession, NoEvent, NotAfter, BadMillis, ClockFull}
 use Rattle.session.specs.Replies.{refusalRow}
+use Rattle.text.specs.declared.Transcript.{Transcript}
+use Rattle.text.specs.declared.Transcript.the-variants.{Made, NoRoom, BadText, BadFile}
+use Rattle.text.specs.Replies.{transcriptRow}
+use Rattle.wording.specs.declared.Row.{Row}
+use Rattle.wording.specs.declared.Row.the-variants.{Call, Text}
 use Rattle.ascii.specs.Text.{bytesOf}
 
 -- The words of its column 'When', letter for letter.
@@ -33,6 +38,20 @@ refusalWords NoEvent = bytesOf "event number 0 or above the last"
 refusalWords NotAfter = bytesOf "event not after the last one heard"
 refusalWords BadMillis = bytesOf "milliseconds outside 1 to 1,000"
 refusalWords ClockFull = bytesOf "the clock would pass 10^15"
+
+-- "0 | done", the row that is no refusal.
+abbrev pub doneNumber : ℕ
+doneNumber = 0
+
+abbrev pub doneWords : List ℕ
+doneWords = bytesOf "done"
+
+-- What comes of a text that is read, or of a file that is written as one.
+unfoldable pub transcriptWords : Transcript → List ℕ
+transcriptWords (Made n) = doneWords
+transcriptWords NoRoom = bytesOf "file room under 52,256 bytes, text room too short"
+transcriptWords (BadText l c) = bytesOf "text against the grammar"
+transcriptWords (BadFile x) = faultWords x
 
 -- The longest of them are the item's.
 abbrev pub mostWords : ℕ
@@ -61,38 +80,45 @@ placed NotAfter = false
 placed BadMillis = false
 placed ClockFull = false
 
--- Every row of the table in its order; where a row's place is a number, any stands for it.
-unfoldable pub refusalRows : List Refusal
-refusalRows =
-    MemoryShort
-    ∷ RoomShort
-    ∷ File FileShort
-    ∷ File (BadCount 4)
-    ∷ File (BadOffset 0)
-    ∷ File BadLength
-    ∷ File (BadEvent 32)
-    ∷ File (BadItem 36)
-    ∷ File (BadMessage 36)
-    ∷ File TextLeft
-    ∷ BadTempo
-    ∷ NoSession
-    ∷ NoEvent
-    ∷ NotAfter
-    ∷ BadMillis
-    ∷ ClockFull
-    ∷ File NoMessage
+-- A row's number and its words.
+unfoldable pub rowNumber : Row → ℕ
+rowNumber (Call x) = refusalRow x .number
+rowNumber (Text t) = transcriptRow t .number
+
+unfoldable pub rowWords : Row → List ℕ
+rowWords (Call x) = refusalWords x
+rowWords (Text t) = transcriptWords t
+
+-- Every row of the table in its order, behind the first; where a row's place is a number, any stands for it.
+unfoldable pub replyRows : List Row
+replyRows =
+    Call MemoryShort
+    ∷ Call RoomShort
+    ∷ Text NoRoom
+    ∷ Call (File FileShort)
+    ∷ Call (File (BadCount 4))
+    ∷ Call (File (BadOffset 0))
+    ∷ Call (File BadLength)
+    ∷ Call (File (BadEvent 32))
+    ∷ Call (File (BadItem 36))
+    ∷ Call (File (BadMessage 36))
+    ∷ Call (File TextLeft)
+    ∷ Call BadTempo
+    ∷ Call NoSession
+    ∷ Call NoEvent
+    ∷ Call NotAfter
+    ∷ Call BadMillis
+    ∷ Call ClockFull
+    ∷ Call (File NoMessage)
+    ∷ Text (BadText 1 1)
     ∷ []
 
--- How many they are.
+-- How many they are, and the first of them.
 abbrev pub rowCount : ℕ
-rowCount = 17
+rowCount = 19
 
--- "0 | done", the row that is no refusal.
-abbrev pub doneNumber : ℕ
-doneNumber = 0
-
-abbrev pub doneWords : List ℕ
-doneWords = bytesOf "done"
+abbrev pub firstRow : Row
+firstRow = Call MemoryShort
 
 -- A row's line: its number and its words, as `7 an item against the rules; also the 1,025th action`.
 unfoldable pub replyLine : (number : ℕ) (words : List ℕ) → List ℕ
@@ -103,13 +129,13 @@ abbrev pub rowRoom : ℕ
 rowRoom = 72
 
 -- The lines of these rows, one behind the other.
-unfoldable pub rowLines : List Refusal → List ℕ
+unfoldable pub rowLines : List Row → List ℕ
 rowLines [] = []
-rowLines (x ∷ xs) = replyLine (refusalRow x .number) (refusalWords x) ++ rowLines xs
+rowLines (x ∷ xs) = replyLine (rowNumber x) (rowWords x) ++ rowLines xs
 
 -- The whole table, a line for each row, and room for it.
 unfoldable pub replyLines : List ℕ
-replyLines = replyLine doneNumber doneWords ++ rowLines refusalRows
+replyLines = replyLine doneNumber doneWords ++ rowLines replyRows
 
 abbrev pub repliesRoom : ℕ
 repliesRoom = 2048

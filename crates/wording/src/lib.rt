@@ -1,10 +1,20 @@
 // The reply table in words for people, laid out on lent bytes: the words of a row, whether it names a byte, and the whole table.
+use session::Refusal;
+use text::Transcript;
+
 pub use figures::put_counted;
 pub use figures::put_figure;
 pub use replies::reply_lines;
 pub use table::placed;
+pub use table::put_text_words;
 pub use table::put_words;
 
 mod figures;
 mod replies;
 mod table;
+
+// A row of the reply table: of a call, or of a text that is read or written.
+pub enum Row {
+    Call(Refusal),
+    Text(Transcript),
+}

@@ -3,10 +3,10 @@ ghost use mathlib.Core.Path.{_≡_};
 ghost use Prim.Native.Nat.{_+_, _*_, _≤_};
 ghost use lib.ListN.{length, getD};
 ghost use Rattle.ascii.specs.Laying.{Laid};
-ghost use Rattle.session.specs.Replies.{refusalRow};
-ghost use Rattle.session.specs.declared.Refusal.the-variants.{MemoryShort};
-ghost use Rattle.wording.specs.Words.{refusalWords, refusalRows, rowCount, replyLine, rowLines, replyLines, repliesRoom, doneNumber, doneWords, rowRoom};
+ghost use Rattle.wording.specs.Words.{rowNumber, rowWords, replyRows, rowCount, firstRow, replyLine, rowLines, replyLines, repliesRoom, doneNumber, doneWords, rowRoom, mostWords};
+use crate::Row;
 use crate::figures::put_figure;
+use crate::table::put_text_words;
 use crate::table::put_words;
 use ascii::NEWLINE;
 use ascii::SPACE;
@@ -15,32 +15,56 @@ use ascii::put_bytes;
 use contents::Fault;
 use session::Refusal;
 use session::refusal_row;
+use text::Transcript;
+use text::replied_text;
 
-const ROWS: usize = 17;
+const ROWS: usize = 19;
 
 // The i-th row; behind the last, the first stands for it.
-fn row_at(i: usize) -> Refusal
-    ensures { λ r. ⌜ r ≡ getD refusalRows i MemoryShort ⌝ }
+fn row_at(i: usize) -> Row
+    ensures { λ r. ⌜ r ≡ getD replyRows i firstRow ⌝ }
 {
     match i {
-        0 => Refusal::MemoryShort,
-        1 => Refusal::RoomShort,
-        2 => Refusal::File(Fault::FileShort),
-        3 => Refusal::File(Fault::BadCount(4)),
-        4 => Refusal::File(Fault::BadOffset(0)),
-        5 => Refusal::File(Fault::BadLength),
-        6 => Refusal::File(Fault::BadEvent(32)),
-        7 => Refusal::File(Fault::BadItem(36)),
-        8 => Refusal::File(Fault::BadMessage(36)),
-        9 => Refusal::File(Fault::TextLeft),
-        10 => Refusal::BadTempo,
-        11 => Refusal::NoSession,
-        12 => Refusal::NoEvent,
-        13 => Refusal::NotAfter,
-        14 => Refusal::BadMillis,
-        15 => Refusal::ClockFull,
-        16 => Refusal::File(Fault::NoMessage),
-        _ => Refusal::MemoryShort,
+        0 => Row::Call(Refusal::MemoryShort),
+        1 => Row::Call(Refusal::RoomShort),
+        2 => Row::Text(Transcript::NoRoom),
+        3 => Row::Call(Refusal::File(Fault::FileShort)),
+        4 => Row::Call(Refusal::File(Fault::BadCount(4))),
+        5 => Row::Call(Refusal::File(Fault::BadOffset(0))),
+        6 => Row::Call(Refusal::File(Fault::BadLength)),
+        7 => Row::Call(Refusal::File(Fault::BadEvent(32))),
+        8 => Row::Call(Refusal::File(Fault::BadItem(36))),
+        9 => Row::Call(Refusal::File(Fault::BadMessage(36))),
+        10 => Row::Call(Refusal::File(Fault::TextLeft)),
+        11 => Row::Call(Refusal::BadTempo),
+        12 => Row::Call(Refusal::NoSession),
+        13 => Row::Call(Refusal::NoEvent),
+        14 => Row::Call(Refusal::NotAfter),
+        15 => Row::Call(Refusal::BadMillis),
+        16 => Row::Call(Refusal::ClockFull),
+        17 => Row::Call(Refusal::File(Fault::NoMessage)),
+        18 => Row::Text(Transcript::BadText { line: 1, column: 1 }),
+        _ => Row::Call(Refusal::MemoryShort),
+    }
+}
+
+// The row's number, and its words behind the first `at` bytes.
+fn row_number(x: Row) -> usize
+    ensures { λ r. ⌜ r ≡ rowNumber x ⌝ }
+{
+    match x {
+        Row::Call(c) => refusal_row(c).number,
+        Row::Text(t) => replied_text(t).number,
+    }
+}
+
+fn put_row_words(out: &mut [u8], at: usize, x: Row) -> usize
+    requires { ⌜ at + mostWords ≤ length (now out) ⌝ }
+    ensures { λ r. ⌜ Laid (now (out .entry)) at (rowWords x) (now (out .exit)) r × (r ≤ at + mostWords) ⌝ }
+{
+    match x {
+        Row::Call(c) => put_words(out, at, c),
+        Row::Text(t) => put_text_words(out, at, t),
     }
 }
 
@@ -52,21 +76,21 @@ fn put_done(out: &mut [u8], at: usize) -> usize
     put_bytes(out, at, b"0 done\n")
 }
 
-// The line of a refusal's row: its number and its words.
-fn put_row(out: &mut [u8], at: usize, x: Refusal) -> usize
+// The line of a row: its number and its words.
+fn put_row(out: &mut [u8], at: usize, x: Row) -> usize
     requires { ⌜ at + rowRoom ≤ length (now out) ⌝ }
-    ensures { λ r. ⌜ Laid (now (out .entry)) at (replyLine (refusalRow x .number) (refusalWords x)) (now (out .exit)) r × (r ≤ at + rowRoom) ⌝ }
+    ensures { λ r. ⌜ Laid (now (out .entry)) at (replyLine (rowNumber x) (rowWords x)) (now (out .exit)) r × (r ≤ at + rowRoom) ⌝ }
 {
-    let at = put_figure(out, at, refusal_row(x).number);
+    let at = put_figure(out, at, row_number(x));
     let at = put_byte(out, at, SPACE);
-    let at = put_words(out, at, x);
+    let at = put_row_words(out, at, x);
     put_byte(out, at, NEWLINE)
 }
 
-// The lines of all refusals' rows, behind the first `at` bytes.
+// The lines of all rows behind the first, behind the first `at` bytes.
 fn put_rows(out: &mut [u8], at: usize) -> usize
     requires { ⌜ at + rowCount * rowRoom ≤ length (now out) ⌝ }
-    ensures { λ r. ⌜ Laid (now (out .entry)) at (rowLines refusalRows) (now (out .exit)) r ⌝ }
+    ensures { λ r. ⌜ Laid (now (out .entry)) at (rowLines replyRows) (now (out .exit)) r ⌝ }
 {
     let mut end = at;
     let mut i = 0;

@@ -3,10 +3,11 @@ ghost use mathlib.Core.Path.{_≡_};
 ghost use Prim.Native.Nat.{_+_, _≤_};
 ghost use lib.ListN.{length};
 ghost use Rattle.ascii.specs.Laying.{Laid};
-ghost use Rattle.wording.specs.Words.{faultWords, refusalWords, mostWords, faultPlaced, placed};
+ghost use Rattle.wording.specs.Words.{faultWords, refusalWords, transcriptWords, mostWords, faultPlaced, placed};
 use ascii::put_bytes;
 use contents::Fault;
 use session::Refusal;
+use text::Transcript;
 
 // The words of a fault behind the first `at` bytes. Answers where the next byte goes.
 fn put_fault_words(out: &mut [u8], at: usize, x: Fault) -> usize
@@ -45,6 +46,23 @@ pub fn put_words(out: &mut [u8], at: usize, x: Refusal) -> usize
         Refusal::NotAfter => put_bytes(out, at, b"event not after the last one heard"),
         Refusal::BadMillis => put_bytes(out, at, b"milliseconds outside 1 to 1,000"),
         Refusal::ClockFull => put_bytes(out, at, b"the clock would pass 10^15"),
+    }
+}
+
+// The same for what comes of a text.
+pub fn put_text_words(out: &mut [u8], at: usize, t: Transcript) -> usize
+    requires { ⌜ at + mostWords ≤ length (now out) ⌝ }
+    ensures { λ r. ⌜ Laid (now (out .entry)) at (transcriptWords t) (now (out .exit)) r × (r ≤ at + mostWords) ⌝ }
+{
+    match t {
+        Transcript::Made { size: _ } => put_bytes(out, at, b"done"),
+        Transcript::NoRoom => put_bytes(
+            out,
+            at,
+            b"file room under 52,256 bytes, text room too short",
+        ),
+        Transcript::BadText { line: _, column: _ } => put_bytes(out, at, b"text against the grammar"),
+        Transcript::BadFile { fault } => put_fault_words(out, at, fault),
     }
 }
 

@@ -1,17 +1,17 @@
 -- Each case is its own row, by definition.
 -- Assumes nothing.
 use mathlib.Core.Path.{refl}
-use Rattle.wording.specs.Words.{refusalRows, rowCount}
+use Rattle.wording.specs.Words.{replyRows, rowCount}
 use Rattle.wording.proofs.CaseLaws.{none-of}
 use Rattle.wording.proofs.RowLaws.{row-case, row-beyond}
 use Rattle.wording.proofs.replies.row_at.Statement.{statement}
 use Rattle.wording.proofs.replies.row_at.Tie as tie
 
-beyond : tie.Need-returns-18
+beyond : tie.Need-returns-20
 beyond c = row-beyond _ (none-of rowCount _ (c .match .rest))
 
 pub row-at-spec : {M : Type 1} → statement M
-unfolding refusalRows
+unfolding replyRows
 row-at-spec =
     tie.close
     (tie.spec
@@ -32,4 +32,6 @@ row-at-spec =
     (λ c. row-case _ 14 _ (c .match .keys15) refl)
     (λ c. row-case _ 15 _ (c .match .keys16) refl)
     (λ c. row-case _ 16 _ (c .match .keys17) refl)
+    (λ c. row-case _ 17 _ (c .match .keys18) refl)
+    (λ c. row-case _ 18 _ (c .match .keys19) refl)
     beyond)
