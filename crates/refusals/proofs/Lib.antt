@@ -3,3 +3,4 @@ pub mod EntryLaws
 pub mod LineLaws
 pub mod NameLaws
 pub mod Examples
+pub mod TextLaws

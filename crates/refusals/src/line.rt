@@ -17,7 +17,7 @@ use wording::put_figure;
 use wording::put_words;
 
 // The refusal's place, where it has one.
-fn put_place(out: &mut [u8], at: usize, x: Refusal) -> usize
+pub fn put_place(out: &mut [u8], at: usize, x: Refusal) -> usize
     requires { ⌜ at + placeRoom ≤ length (now out) ⌝ }
     ensures { λ r. ⌜ Laid (now (out .entry)) at (placeWords x) (now (out .exit)) r × (r ≤ at + placeRoom) ⌝ }
 {

@@ -1,13 +1,12 @@
 // The reply table in words for people, laid out on lent bytes: the words of a row, whether it names a byte, and the whole table.
-use session::Refusal;
-use text::Transcript;
-
 pub use figures::put_counted;
 pub use figures::put_figure;
 pub use replies::reply_lines;
+use session::Refusal;
 pub use table::placed;
 pub use table::put_text_words;
 pub use table::put_words;
+use text::Transcript;
 
 mod figures;
 mod replies;

@@ -61,7 +61,11 @@ pub fn put_text_words(out: &mut [u8], at: usize, t: Transcript) -> usize
             at,
             b"file room under 52,256 bytes, text room too short",
         ),
-        Transcript::BadText { line: _, column: _ } => put_bytes(out, at, b"text against the grammar"),
+        Transcript::BadText { line: _, column: _ } => put_bytes(
+            out,
+            at,
+            b"text against the grammar",
+        ),
         Transcript::BadFile { fault } => put_fault_words(out, at, fault),
     }
 }

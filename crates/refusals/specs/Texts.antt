@@ -1,0 +1,68 @@
+-- The lines that tell people of a text that is refused: for a byte of its own, as `new.txt:12:7: refused 16: text against the grammar`; or for what its file would be, as
+-- `new.txt: refused 7 at byte 116 of the file it would make, item 6: an item against the rules; also the 1,025th action`.
+use Prim.Native.Nat.{ℕ}
+use mathlib.Core.List.{List, [], _∷_, _++_}
+use Rattle.ascii.specs.Words.{newline}
+use Rattle.ascii.specs.Decimals.{decimal}
+use Rattle.ascii.specs.Text.{bytesOf}
+use Rattle.contents.specs.declared.Counts.{Counts}
+use Rattle.session.specs.declared.Refusal.{Refusal}
+use Rattle.session.specs.Replies.{refusalRow}
+use Rattle.text.specs.declared.Transcript.{Transcript}
+use Rattle.text.specs.declared.Transcript.the-variants.{BadText}
+use Rattle.text.specs.Replies.{transcriptRow}
+use Rattle.wording.specs.Words.{refusalWords, transcriptWords}
+use Rattle.refusals.specs.Entries.{entryAt, entryWords}
+use Rattle.refusals.specs.Line.{placeWords}
+
+-- ---- a byte of the text
+
+-- The text's name, line and column, "in the form that editors jump to".
+unfoldable pub spotWords : (name : List ℕ) → (line column : ℕ) → List ℕ
+spotWords name l c = name ++ ((bytesOf ":" ++ decimal l) ++ (bytesOf ":" ++ decimal c))
+
+-- That it is refused, with the row's number and words.
+unfoldable pub toldEnd : Transcript → List ℕ
+toldEnd t = bytesOf ": " ++ (transcriptWords t ++ (newline ∷ []))
+
+unfoldable pub toldWords : Transcript → List ℕ
+toldWords t = (bytesOf ": refused " ++ decimal (transcriptRow t .number)) ++ toldEnd t
+
+unfoldable pub misreadLine : (name : List ℕ) → (line column : ℕ) → List ℕ
+misreadLine name l c = spotWords name l c ++ toldWords (BadText l c)
+
+-- Room for each: the numbers have at most 20 digits.
+abbrev pub spotRoom : ℕ
+spotRoom = 42
+
+abbrev pub toldRoom : ℕ
+toldRoom = 83
+
+-- ---- a byte of the file that the text would make
+
+unfoldable pub refusedHead : (name : List ℕ) → Refusal → List ℕ
+refusedHead name x = name ++ (bytesOf ": refused " ++ decimal (refusalRow x .number))
+
+-- The place in that file, and the entry that it lies in, by the counts of what the text says.
+unfoldable pub unmadeWords : Counts → Refusal → List ℕ
+unmadeWords c x = placeWords x ++ (bytesOf " of the file it would make" ++ entryWords (entryAt c (refusalRow x .place)))
+
+unfoldable pub refusedEnd : Refusal → List ℕ
+refusedEnd x = bytesOf ": " ++ (refusalWords x ++ (newline ∷ []))
+
+unfoldable pub unmadeLine : (name : List ℕ) → Counts → Refusal → List ℕ
+unmadeLine name c x = refusedHead name x ++ (unmadeWords c x ++ refusedEnd x)
+
+-- Room for the head without the name, for the place with its entry, and for the end.
+abbrev pub headRoom : ℕ
+headRoom = 30
+
+abbrev pub unmadeRoom : ℕ
+unmadeRoom = 85
+
+abbrev pub endRoom : ℕ
+endRoom = 53
+
+-- Room for either line, without its name.
+abbrev pub textLineRoom : ℕ
+textLineRoom = 168
