@@ -26,18 +26,21 @@ module _ (at n d next : ℕ) where
   valued-zero v p e = rw (le-ltb 0 d p) e
 
   module _ (p : 0 < d) where
-    pub valued-part : (v : Token) → (n * grainsOfABeat % d ≡ 0 → ⊥) → v ≡ stopped at → v ≡ valuedAs at n d next
+    pub valued-part : (v : Token) → 0 < n * grainsOfABeat % d → v ≡ stopped at → v ≡ valuedAs at n d next
     unfolding valuedAs isFraction every pick
-    valued-part v q e = rw (lt-ltb 0 d p, ne-eqb (n * grainsOfABeat % d) 0 q) e
+    valued-part v q e = rw (lt-ltb 0 d p, ne-eqb (n * grainsOfABeat % d) 0 (λ z. omega arith)) e
 
-    module _ (q : n * grainsOfABeat % d ≡ 0) where
+    module _ (q : n * grainsOfABeat % d ≤ 0) where
+      whole : eqb (n * grainsOfABeat % d) 0 ≡ true
+      whole = eq-eqb (n * grainsOfABeat % d) 0 (omega arith)
+
       pub valued-big : (v : Token) → field ≤ n * grainsOfABeat / d → v ≡ stopped at → v ≡ valuedAs at n d next
       unfolding valuedAs isFraction every pick
-      valued-big v l e = rw (lt-ltb 0 d p, eq-eqb (n * grainsOfABeat % d) 0 q, le-ltb (n * grainsOfABeat / d) field l) e
+      valued-big v l e = rw (lt-ltb 0 d p, whole, le-ltb (n * grainsOfABeat / d) field l) e
 
       pub valued-read : n * grainsOfABeat / d < field → record { read = true; value = n * grainsOfABeat / d; next = next } ≡ valuedAs at n d next
       unfolding valuedAs isFraction every pick
-      valued-read l = rw (lt-ltb 0 d p, eq-eqb (n * grainsOfABeat % d) 0 q, lt-ltb (n * grainsOfABeat / d) field l)
+      valued-read l = rw (lt-ltb 0 d p, whole, lt-ltb (n * grainsOfABeat / d) field l)
 
 pub ruleset valuing = (valued-zero, valued-part, valued-big, valued-read, needs)
 

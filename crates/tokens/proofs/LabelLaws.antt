@@ -1,16 +1,16 @@
--- What a caller knows of a label that was read: its size is what was told, and it can be copied.
+-- What a caller knows of a label that was read: its size is what was told, it takes more bytes of the text than that, and it can be copied.
 -- Assumes nothing.
 use mathlib.Core.Path.{_≡_, sym, _∙_}
 use mathlib.Core.Bool.{false, not}
 use mathlib.Core.List.{List}
-use Prim.Native.Nat.{ℕ, _+_, _≤_}
+use Prim.Native.Nat.{ℕ, _+_, _<_, _≤_}
 use native.Mathlib.Omega.{arith}
-use lib.ListN.{length, drop}
+use lib.ListN.{length, drop, length-drop}
 use borrow.Author.Tests.{not-false}
 use Rattle.tokens.specs.declared.Token.{Token}
 use Rattle.tokens.specs.Tokens.{Read, got, stop, label, isRead, bytesIn}
 use Rattle.tokens.specs.Asked.{sizedFrom, Sizes, Copyable}
-use Rattle.tokens.proofs.ShorterLaws.{read-got}
+use Rattle.tokens.proofs.ShorterLaws.{read-got, label-fewer, fewer-left}
 
 sized-got : (r : Read (List ℕ)) (n : ℕ) (left : List ℕ) → sizedFrom 0 r ≡ got n left → r ≡ got (bytesIn r) left
 unfolding sizedFrom bytesIn
@@ -31,6 +31,12 @@ module _ (t : List ℕ) (at : ℕ) (v : Token) (s : Sizes t (label (drop at t)) 
 
   pub label-size : v .value ≡ length (bytesIn (label (drop at t)))
   label-size = sized-size _ _ _ told
+
+  -- The label has more bytes in the text than it stands for: its quotes, and the backslashes of its escapes.
+  pub label-onward : at + v .value < v .next
+  label-onward =
+      let l = fewer-left _ _ (label-fewer (drop at t)) label-got in
+      omega (arith, label-size, s .within, length-drop at t, length-drop (v .next) t)
 
 module _ (t : List ℕ) (at : ℕ) (o : List ℕ) (to : ℕ) where
   pub copyable : (l left : List ℕ) → label (drop at t) ≡ got l left → to + length l ≤ length o → Copyable t at o to

@@ -6,6 +6,7 @@ use mathlib.Core.List.{List, [], _∷_}
 use Prim.Native.Nat.{ℕ, suc, _+_, _*_, _/_, _<_, _≤_}
 use native.Mathlib.Omega.{arith}
 use lib.ListN.{length, drop, length-drop}
+use lib.Seq.{drop-drop}
 use lib.Dec.{eqb}
 use borrow.Author.Tests.{not-false}
 use Rattle.base.specs.Tests.{pick}
@@ -17,7 +18,7 @@ use Rattle.tokens.specs.declared.Token.{Token}
 use Rattle.tokens.specs.Bytes.{hash, slash, quote, backslash, isBlank, isDigit, isLetter, isEscaped}
 use Rattle.tokens.specs.Tokens.{Read, got, stop, onward, pastBlanks, blanks, leading, behind, isWord, isNumber, number, withByte, labelFrom, label}
 use Rattle.tokens.specs.Beats.{field, grainsOfABeat, isFraction, valued, fraction, beats}
-use Rattle.tokens.specs.Asked.{asRead, Reads, sizedFrom, Sizes}
+use Rattle.tokens.specs.Asked.{asRead, Reads}
 
 -- What is read leaves fewer bytes than n.
 pub data Shorter {A : Type 0} (n : ℕ) : Read A → Type 0 where
@@ -79,6 +80,13 @@ word-behind word bs e =
     let l : length word ≡ length (leading isLetter bs) = ap (λ (x : List ℕ). length x) w in
     (rw l (behind-drop isLetter bs), omega (arith, leading-size isLetter bs))
 
+-- The same in a text, from one of its bytes on.
+pub word-next : (word t : List ℕ) (at : ℕ) → at ≤ length t → isWord word (drop at t) ≡ true
+    → (behind isLetter (drop at t) ≡ drop (at + length word) t) × (at + length word ≤ length t)
+word-next word t at p e =
+    let w = word-behind word (drop at t) e in
+    (w .0 ∙ drop-drop (length word) at t, omega (arith, w .1, length-drop at t))
+
 pub number-shorter : (limit : ℕ) (bs : List ℕ) → Shorter (length bs) (number limit bs)
 unfolding number isNumber pick
 number-shorter limit bs = go (isNumber limit (leading isDigit bs)) refl where
@@ -111,38 +119,56 @@ beats-shorter bs = onward-shorter (number-shorter field bs) (λ k left q. fracti
 
 -- ---- labels
 
-byte-shorter : {n : ℕ} (b : ℕ) {r : Read (List ℕ)} → Shorter n r → Shorter (suc n) (withByte b r)
-unfolding withByte
-byte-shorter b (shorter {left = left} p) = shorter {left = left} (omega arith)
-byte-shorter b stuck = stuck
+-- A label's bytes and those left are fewer than n.
+pub data Fewer (n : ℕ) : Read (List ℕ) → Type 0 where
+  fewer : {l left : List ℕ} → length l + length left < n → Fewer n (got l left)
+  unread : {left : List ℕ} → Fewer n (stop left)
 
-labelled-shorter : (e : Bool) (bs : List ℕ) → Shorter (length bs) (labelFrom e bs)
+fewer-more : {m n : ℕ} {r : Read (List ℕ)} → m ≤ n → Fewer m r → Fewer n r
+fewer-more p (fewer {l = l} {left = left} q) = fewer {l = l} {left = left} (omega arith)
+fewer-more p unread = unread
+
+byte-fewer : {n : ℕ} (b : ℕ) {r : Read (List ℕ)} → Fewer n r → Fewer (suc n) (withByte b r)
+unfolding withByte
+byte-fewer b (fewer {l = l} {left = left} p) = fewer {l = b ∷ l} {left = left} (omega arith)
+byte-fewer b unread = unread
+
+labelled-fewer : (e : Bool) (bs : List ℕ) → Fewer (length bs) (labelFrom e bs)
 unfolding labelFrom pick
-labelled-shorter e [] = stuck
-labelled-shorter true (b ∷ bs) = go (isEscaped b) (labelled-shorter false bs) where
-  go : (t : Bool) → Shorter (length bs) (labelFrom false bs) → Shorter (suc (length bs)) (pick t (withByte b (labelFrom false bs)) (stop (b ∷ bs)))
-  go true r = byte-shorter b r
-  go false r = stuck
-labelled-shorter false (b ∷ bs) = go (eqb b quote) (eqb b backslash) (eqb b newline) (labelled-shorter true bs) (labelled-shorter false bs) where
-  go : (t u v : Bool) → Shorter (length bs) (labelFrom true bs) → Shorter (length bs) (labelFrom false bs)
-      → Shorter (suc (length bs)) (pick t (got [] bs) (pick u (labelFrom true bs) (pick v (stop (b ∷ bs)) (withByte b (labelFrom false bs)))))
-  go true u v r s = shorter {left = bs} (omega arith)
-  go false true v r s = shorter-more (omega arith) r
-  go false false true r s = stuck
-  go false false false r s = byte-shorter b s
+labelled-fewer e [] = unread
+labelled-fewer true (b ∷ bs) = go (isEscaped b) (labelled-fewer false bs) where
+  go : (t : Bool) → Fewer (length bs) (labelFrom false bs) → Fewer (suc (length bs)) (pick t (withByte b (labelFrom false bs)) (stop (b ∷ bs)))
+  go true r = byte-fewer b r
+  go false r = unread
+labelled-fewer false (b ∷ bs) = go (eqb b quote) (eqb b backslash) (eqb b newline) (labelled-fewer true bs) (labelled-fewer false bs) where
+  go : (t u v : Bool) → Fewer (length bs) (labelFrom true bs) → Fewer (length bs) (labelFrom false bs)
+      → Fewer (suc (length bs)) (pick t (got [] bs) (pick u (labelFrom true bs) (pick v (stop (b ∷ bs)) (withByte b (labelFrom false bs)))))
+  go true u v r s = fewer {l = []} {left = bs} (omega arith)
+  go false true v r s = fewer-more (omega arith) r
+  go false false true r s = unread
+  go false false false r s = byte-fewer b s
+
+pub label-fewer : (bs : List ℕ) → Fewer (length bs) (label bs)
+unfolding label pick
+label-fewer [] = unread
+label-fewer (b ∷ bs) = go (eqb b quote) where
+  go : (t : Bool) → Fewer (suc (length bs)) (pick t (labelFrom false bs) (stop (b ∷ bs)))
+  go true = fewer-more (omega arith) (labelled-fewer false bs)
+  go false = unread
+
+fewer-shorter : {n : ℕ} {r : Read (List ℕ)} → Fewer n r → Shorter n r
+fewer-shorter (fewer {l = l} {left = left} p) = shorter {a = l} {left = left} (omega arith)
+fewer-shorter unread = stuck
 
 pub label-shorter : (bs : List ℕ) → Shorter (length bs) (label bs)
-unfolding label pick
-label-shorter [] = stuck
-label-shorter (b ∷ bs) = go (eqb b quote) where
-  go : (t : Bool) → Shorter (suc (length bs)) (pick t (labelFrom false bs) (stop (b ∷ bs)))
-  go true = shorter-more (omega arith) (labelled-shorter false bs)
-  go false = stuck
+label-shorter bs = fewer-shorter (label-fewer bs)
 
-sized-shorter : {n : ℕ} (k : ℕ) {r : Read (List ℕ)} → Shorter n r → Shorter n (sizedFrom k r)
-unfolding sizedFrom
-sized-shorter k (shorter {left = left} p) = shorter {left = left} p
-sized-shorter k stuck = stuck
+pub fewer-left : {n : ℕ} {r : Read (List ℕ)} (l left : List ℕ) → Fewer n r → r ≡ got l left → length l + length left < n
+fewer-left l left (fewer {l = m} {left = rest} p) e =
+    let z : m ≡ l = cc in
+    let y : rest ≡ left = cc in
+    rw (z, y) at p
+fewer-left l left unread e = let z : _≡_ {A = ℕ} 0 1 = cc in absurd (omega arith)
 
 -- ---- in the code's own terms
 
@@ -165,6 +191,3 @@ module _ (t : List ℕ) (at : ℕ) (v : Token) where
 
   pub beats-onward : Reads t field (beats (drop at t)) v → not (v .read) ≡ false → at < v .next
   beats-onward r p = read-onward (beats-shorter (drop at t)) (r .says) (r .within) p
-
-  pub label-onward : Sizes t (label (drop at t)) v → not (v .read) ≡ false → at < v .next
-  label-onward r p = read-onward (sized-shorter 0 (label-shorter (drop at t))) (r .says) (r .within) p

@@ -7,6 +7,7 @@ use Rattle.base.specs.Tests.{pick, every}
 use Rattle.tokens.specs.Bytes.{slash}
 use Rattle.tokens.specs.Tokens.{Read, got, stop, onward, number}
 
+-- "a beat is 5,040 grains"
 abbrev pub grainsOfABeat : ℕ
 grainsOfABeat = 5040
 

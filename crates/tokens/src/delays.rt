@@ -23,7 +23,7 @@ fn valued(at: usize, n: u64, d: u64, next: usize) -> Token
         return stop(at);
     }
     let whole = n * GRAINS_OF_A_BEAT;
-    if whole % d != 0 {
+    if 0 < whole % d {
         return stop(at);
     }
     let grains = whole / d;
