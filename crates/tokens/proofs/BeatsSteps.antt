@@ -26,9 +26,10 @@ module _ (at n d next : ℕ) where
   valued-zero v p e = rw (le-ltb 0 d p) e
 
   module _ (p : 0 < d) where
-    pub valued-part : (v : Token) → 0 < n * grainsOfABeat % d → v ≡ stopped at → v ≡ valuedAs at n d next
+    -- whatever is left over
+    pub valued-part : (v : Token) (k : ℕ) → k < n * grainsOfABeat % d → v ≡ stopped at → v ≡ valuedAs at n d next
     unfolding valuedAs isFraction every pick
-    valued-part v q e = rw (lt-ltb 0 d p, ne-eqb (n * grainsOfABeat % d) 0 (λ z. omega arith)) e
+    valued-part v k q e = rw (lt-ltb 0 d p, ne-eqb (n * grainsOfABeat % d) 0 (λ z. omega arith)) e
 
     module _ (q : n * grainsOfABeat % d ≤ 0) where
       whole : eqb (n * grainsOfABeat % d) 0 ≡ true
