@@ -10,7 +10,9 @@ use lib.Dec.{eqb, ltb}
 use borrow.Author.Tests.{lt-ltb, le-ltb, eq-eqb, ne-eqb, ltb-true, not-true, not-false}
 use borrow.Author.Needs.{needs}
 use Rattle.base.specs.Tests.{pick, every}
+use Rattle.base.proofs.TestLaws.{pick-false}
 use Rattle.ascii.proofs.WordSteps.{drop-next}
+use Rattle.ascii.proofs.NumberSteps.{not-two}
 use Rattle.tokens.specs.declared.Token.{Token}
 use Rattle.tokens.specs.Bytes.{slash}
 use Rattle.tokens.specs.Tokens.{Read, got, stop, onward, number}
@@ -31,17 +33,16 @@ module _ (at n d next : ℕ) where
     unfolding valuedAs isFraction every pick
     valued-part v k q e = rw (lt-ltb 0 d p, ne-eqb (n * grainsOfABeat % d) 0 (λ z. omega arith)) e
 
-    module _ (q : n * grainsOfABeat % d ≤ 0) where
-      whole : eqb (n * grainsOfABeat % d) 0 ≡ true
-      whole = eq-eqb (n * grainsOfABeat % d) 0 (omega arith)
+    pub valued-big : (v : Token) → field ≤ n * grainsOfABeat / d → v ≡ stopped at → v ≡ valuedAs at n d next
+    unfolding valuedAs isFraction every
+    valued-big v l e =
+        let b = not-two (eqb (n * grainsOfABeat % d) 0) (ltb (n * grainsOfABeat / d) field) (le-ltb _ _ l) in
+        let f : isFraction n d ≡ false = rw (lt-ltb 0 d p) b in
+        pick-false _ _ _ _ f e
 
-      pub valued-big : (v : Token) → field ≤ n * grainsOfABeat / d → v ≡ stopped at → v ≡ valuedAs at n d next
-      unfolding valuedAs isFraction every pick
-      valued-big v l e = rw (lt-ltb 0 d p, whole, le-ltb (n * grainsOfABeat / d) field l) e
-
-      pub valued-read : n * grainsOfABeat / d < field → record { read = true; value = n * grainsOfABeat / d; next = next } ≡ valuedAs at n d next
-      unfolding valuedAs isFraction every pick
-      valued-read l = rw (lt-ltb 0 d p, whole, lt-ltb (n * grainsOfABeat / d) field l)
+    pub valued-read : n * grainsOfABeat % d ≤ 0 → n * grainsOfABeat / d < field → record { read = true; value = n * grainsOfABeat / d; next = next } ≡ valuedAs at n d next
+    unfolding valuedAs isFraction every pick
+    valued-read q l = rw (lt-ltb 0 d p, eq-eqb (n * grainsOfABeat % d) 0 (omega arith), lt-ltb (n * grainsOfABeat / d) field l)
 
 pub ruleset valuing = (valued-zero, valued-part, valued-big, valued-read, needs)
 
