@@ -118,3 +118,21 @@ digits-lead (suc k) n p q = go (ltb n 10) (digits-lead k (n / 10)) refl where
 pub decimal-lead : (n : ℕ) → 0 < n → n < 10 ^ mostPlaces → zeroDigit < getD (decimal n) 0 0
 unfolding decimal
 decimal-lead n p q = digits-lead mostPlaces n p q .0
+
+-- ---- how many digits there are at most
+
+digits-short : (places k n : ℕ) → 1 ≤ k → n < 10 ^ k → length (digitsOf places n) ≤ k
+unfolding digitsOf pick
+digits-short zero k n p q = omega arith
+digits-short (suc places) k n p q = go (ltb n 10) refl (digits-short places (k - 1) (n / 10)) where
+  go : (t : Bool) → ltb n 10 ≡ t → (1 ≤ k - 1 → n / 10 < 10 ^ (k - 1) → length (digitsOf places (n / 10)) ≤ k - 1)
+      → length (pick t ((zeroDigit + n) ∷ []) (digitsOf places (n / 10) ++ ((zeroDigit + n % 10) ∷ []))) ≤ k
+  go true e r = omega arith
+  go false e r =
+      let two : 2 ≤ k = second-place k n (ltb-false n 10 e) q in
+      let most = r (omega arith) (fewer k n p q) in
+      omega (arith, length-append (digitsOf places (n / 10)) ((zeroDigit + n % 10) ∷ []))
+
+pub decimal-short : (k n : ℕ) → 1 ≤ k → n < 10 ^ k → length (decimal n) ≤ k
+unfolding decimal
+decimal-short k n p q = digits-short mostPlaces k n p q

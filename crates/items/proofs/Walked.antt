@@ -162,3 +162,9 @@ table-walked c is e = let w = walk-ended _ e in (w .0, walk-walked (length is) c
 pub walked-few : {c : Counts} {h : Setting} {n m : ℕ} {is : List Item} → Walked c h n is m → n ≤ mostActions → m ≤ mostActions
 walked-few walked-none p = p
 walked-few (walked-item r e b l) p = walked-few l (walked-few b (own-room r p))
+
+-- ---- and counts on from those before it
+
+pub walked-more : {c : Counts} {h : Setting} {n m : ℕ} {is : List Item} → Walked c h n is m → n ≤ m
+walked-more walked-none = omega arith
+walked-more (walked-item {i = i} r e b l) = omega (arith, walked-more b, walked-more l)

@@ -1,2 +1,5 @@
 -- Laws of the text form.
 mod ReplySteps
+pub mod BeatsLaws
+pub mod LineSizes
+pub mod SizeLaws
