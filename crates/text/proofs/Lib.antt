@@ -3,3 +3,4 @@ mod ReplySteps
 pub mod BeatsLaws
 pub mod LineSizes
 pub mod SizeLaws
+pub mod CountLaws
