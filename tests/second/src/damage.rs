@@ -210,7 +210,7 @@ fn order(random: &mut Random, tables: &mut Tables) {
     }
 }
 
-fn rename_part(tables: &mut Tables, top: usize, part: u8) {
+pub fn rename_part(tables: &mut Tables, top: usize, part: u8) {
     let mut index = top;
     loop {
         tables.items[index].part = part;

@@ -1,6 +1,7 @@
 //! What Poolmirror must do, worked out a second time from the paper alone, and
 //! a comparison with any program that should do it.
 
+mod bounds;
 mod case;
 mod commands;
 mod compare;
@@ -16,7 +17,13 @@ mod scatter;
 mod score;
 mod scores;
 mod session;
+mod slips;
+mod text;
+mod text_words;
+mod texts;
+mod tokens;
 mod words;
+mod writer;
 
 use case::Case;
 use std::ffi::OsString;
@@ -34,6 +41,7 @@ const USAGE: &str = "usage:
   second files SEED COUNT OUT
   second scatter DIR SEED COUNT
   second noise SEED LINES
+  second texts SEED COUNT OUT
   second words";
 
 /// What went wrong; bad arguments show the usage.
@@ -84,6 +92,7 @@ fn run(arguments: &[OsString]) -> Result<bool, Fault> {
             io::stdout().write_all(&noise::commands(number(seed)?, number(lines)?))?;
             Ok(true)
         }
+        ("texts", [seed, count, out]) => texts(number(seed)?, number(count)?, Path::new(out)),
         ("words", []) => Ok(tally(words::words())),
         _ => Err(Fault::Arguments),
     }
@@ -151,6 +160,21 @@ fn files(seed: u64, count: u64, out: &Path) -> Result<bool, Fault> {
         batch.write_all(&file)?;
         let (number, place) = score::check(&file);
         writeln!(lines, "{index} {number} {place}")?;
+    }
+    batch.flush()?;
+    lines.flush()?;
+    Ok(true)
+}
+
+/// Each seed's case for the text form into `out`; what must come of it on
+/// standard output.
+fn texts(seed: u64, count: u64, out: &Path) -> Result<bool, Fault> {
+    let mut batch = BufWriter::new(fs::File::create(out)?);
+    let mut lines = BufWriter::new(io::stdout().lock());
+    for index in 0..count {
+        let case = texts::Case::of_seed(seed.wrapping_add(index));
+        batch.write_all(&case.record())?;
+        lines.write_all(&texts::lines(&case.expected()))?;
     }
     batch.flush()?;
     lines.flush()?;

@@ -4,7 +4,7 @@
 use std::sync::OnceLock;
 
 pub const VARIABLE: &str = "SECOND_MUTANT";
-pub const LAST: u32 = 22;
+pub const LAST: u32 = 30;
 
 pub const EXACTLY_E_J_IS_PAST: u32 = 1;
 pub const SLICE_FROM_THE_MISSED_EVENT: u32 = 2;
@@ -28,6 +28,14 @@ pub const ITEMS_FROM_ONE: u32 = 19;
 pub const GROUPS_COUNT_AS_ACTIONS: u32 = 20;
 pub const PARTS_OF_ACTIONS_ONLY: u32 = 21;
 pub const NOWHERE_IS_A_FOLDER: u32 = 22;
+pub const MISSING_WORD_IS_CAUSAL: u32 = 23;
+pub const COLUMNS_FROM_ZERO: u32 = 24;
+pub const COMMENT_SWALLOWS_ITS_LINE: u32 = 25;
+pub const FRACTION_CUT_DOWN: u32 = 26;
+pub const HIGH_BYTES_LOST: u32 = 27;
+pub const BACKSLASH_KEPT: u32 = 28;
+pub const ELEVEN_DIGITS_READ: u32 = 29;
+pub const EMPTY_PART_REFUSED: u32 = 30;
 
 /// The number in the environment, 0 without one; an unreadable one is an error
 /// so that a slip is never taken for a run without a mutant.

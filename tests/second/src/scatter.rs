@@ -13,6 +13,9 @@ use crate::{case, scores};
 /// How many sorts there are below.
 const TURNS: u64 = 30;
 
+/// So many of them are wrong.
+const WRONG: u64 = 18;
+
 /// Longer than any score by far.
 const LONG: u64 = 70_000;
 
@@ -22,6 +25,19 @@ pub fn file_of_seed(seed: u64) -> Vec<u8> {
     }
     let random = &mut Random::new(seed);
     match seed / 2 % TURNS {
+        turn @ 0..WRONG => wrong_file(random, turn),
+        18 => no_item(random),
+        19 => no_action(random),
+        20..=21 => groups_alone(random),
+        22 => several_parts(random),
+        23 => all_parts(random),
+        _ => scores::invent(random).tables.encode(),
+    }
+}
+
+/// One of the sorts that are wrong, in turns; a few are just not.
+pub fn wrong_file(random: &mut Random, turn: u64) -> Vec<u8> {
+    match turn % WRONG {
         turn @ 0..=3 => bad_count(random, turn as usize),
         turn @ 4..=7 => bad_offset(random, turn as usize - 4),
         8 => short(random),
@@ -31,13 +47,7 @@ pub fn file_of_seed(seed: u64) -> Vec<u8> {
         13..=14 => bad_item(random),
         15 => too_many_actions(random),
         16 => bad_message(random),
-        17 => text_left(random),
-        18 => no_item(random),
-        19 => no_action(random),
-        20..=21 => groups_alone(random),
-        22 => several_parts(random),
-        23 => all_parts(random),
-        _ => scores::invent(random).tables.encode(),
+        _ => text_left(random),
     }
 }
 

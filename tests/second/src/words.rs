@@ -7,6 +7,7 @@ use crate::rules::performance;
 use crate::scatter;
 use crate::score::{self, Entry, Tables};
 use crate::session::Session;
+use crate::text_words::text_words;
 use std::ffi::OsStr;
 use std::io;
 
@@ -135,13 +136,13 @@ const TABLE: &[Row] = &[
 ];
 
 #[derive(Default)]
-struct Tally {
+pub struct Tally {
     passed: u64,
     failed: u64,
 }
 
 impl Tally {
-    fn note(&mut self, name: &str, right: bool) {
+    pub fn note(&mut self, name: &str, right: bool) {
         if right {
             self.passed += 1;
             println!("ok {name}");
@@ -178,6 +179,7 @@ pub fn words() -> (u64, u64) {
     names_and_reasons(&mut tally);
     scattered(&mut tally);
     odd_entries(&mut tally);
+    text_words(&mut tally);
     (tally.passed, tally.failed)
 }
 
@@ -297,7 +299,7 @@ fn file_check(tally: &mut Tally) {
 /// Byte by byte: events at 32, items at 40, messages at 76, text at 84, 87 bytes.
 /// Part 2 has a group with an action in it, part 9 an empty group.
 #[rustfmt::skip]
-const SMALL: [u8; 87] = [
+pub const SMALL: [u8; 87] = [
     32, 0, 0, 0, 2, 0, 0, 0,
     40, 0, 0, 0, 3, 0, 0, 0,
     76, 0, 0, 0, 2, 0, 0, 0,
@@ -314,7 +316,7 @@ const SMALL: [u8; 87] = [
 
 /// One event, nothing else.
 #[rustfmt::skip]
-const SMALLEST: [u8; 36] = [
+pub const SMALLEST: [u8; 36] = [
     32, 0, 0, 0, 1, 0, 0, 0,
     36, 0, 0, 0, 0, 0, 0, 0,
     36, 0, 0, 0, 0, 0, 0, 0,
