@@ -4,3 +4,4 @@ pub mod BeatsLaws
 pub mod LineSizes
 pub mod SizeLaws
 pub mod CountLaws
+pub mod ScriptLaws
