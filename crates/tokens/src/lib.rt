@@ -5,6 +5,7 @@ pub use labels::label;
 pub use labels::put_label;
 pub use numbers::number;
 pub use places::place_behind;
+pub use words::is_letter;
 pub use words::is_word;
 
 mod blanks;

@@ -5,7 +5,7 @@ ghost use lib.ListN.{length, drop};
 ghost use Rattle.tokens.specs.Bytes.{isLetter};
 ghost use Rattle.tokens.specs.Tokens.{isWord};
 
-fn is_letter(b: u8) -> bool
+pub fn is_letter(b: u8) -> bool
     ensures { λ r. ⌜ r ≡ isLetter b ⌝ }
 {
     if b < b'a' {
