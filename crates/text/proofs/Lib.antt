@@ -5,3 +5,4 @@ pub mod LineSizes
 pub mod SizeLaws
 pub mod CountLaws
 pub mod ScriptLaws
+pub mod Examples
