@@ -29,6 +29,7 @@ pub record Right (i : Item) (c : Counts) (h : Setting) (left n : ℕ) : Type 0 w
   pub kind : i .kind ≤ 1
   pub synchrony : i .synchrony ≤ 1
   pub error : i .error ≤ 3
+  pub no-words : isAction i ≡ true → (i .synchrony ≡ 0) × (i .error ≡ 0)
   pub part : i .part ≤ lastPart
   pub inner-part : 1 < h .depth → i .part ≡ h .part
   pub delay : i .delay .0 ≤ longest
@@ -54,6 +55,9 @@ unfolding pick
 words-small true s e p = let y = eqb-true s 0 (every-head _ _ p) in let z = eqb-true e 0 (every-head _ _ (every-rest _ _ p)) in (omega arith, omega arith)
 words-small false s e p = (leb-true s 1 (every-head _ _ p), leb-true e 3 (every-head _ _ (every-rest _ _ p)))
 
+words-none : (b : Bool) (s e : ℕ) → pick b (every (eqb s 0 ∷ eqb e 0 ∷ [])) (every (leb s 1 ∷ leb e 3 ∷ [])) ≡ true → b ≡ true → (s ≡ 0) × (e ≡ 0)
+words-none b s e p t = let q = picked b _ _ p t in (eqb-true s 0 (every-head _ _ q), eqb-true e 0 (every-head _ _ (every-rest _ _ q)))
+
 event-small : (b o : Bool) (k e : ℕ) → pick b (every (between 1 k e ∷ o ∷ [])) (eqb e 0) ≡ true → e ≤ k
 unfolding pick
 event-small true o k e p = between-high 1 k e (every-head _ _ p)
@@ -78,6 +82,7 @@ right-item i c h left n right =
       kind = leb-true _ _ (every-head _ _ fields);
       synchrony = words .0;
       error = words .1;
+      no-words = words-none (isAction i) (i .synchrony) (i .error) (every-head _ _ fields₁);
       part = leb-true _ _ (every-head _ _ parts);
       inner-part = λ d. eqb-true _ _ (passed-over _ _ _ (every-head _ _ (every-rest _ _ parts)) (deeper d));
       delay = leb-true _ _ (every-head _ _ (every-rest _ _ fields₂));

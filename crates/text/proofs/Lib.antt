@@ -5,4 +5,6 @@ pub mod LineSizes
 pub mod SizeLaws
 pub mod CountLaws
 pub mod ScriptLaws
+pub mod LineLaws
+pub mod TextLaws
 pub mod Examples
