@@ -7,4 +7,7 @@ pub mod CountLaws
 pub mod ScriptLaws
 pub mod LineLaws
 pub mod TextLaws
+pub mod BodyLaws
+pub mod PageLaws
+pub mod RoundTrip
 pub mod Examples
