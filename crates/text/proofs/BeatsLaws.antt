@@ -1,21 +1,20 @@
 -- "Beats in lowest terms": the denominator is the least that serves, the fraction's value is the delay's, no number above 1 divides both, and it reads back.
 -- Assumes nothing.
-use mathlib.Core.Path.{_≡_, refl, sym, ap, _∙_}
+use mathlib.Core.Path.{_≡_, refl, sym, _∙_}
 use mathlib.Core.Bool.{Bool, true, false}
 use mathlib.Core.List.{List, [], _∷_, _++_, append-assoc}
-use Prim.Native.Nat.{ℕ, zero, suc, _+_, _-_, _*_, _/_, _%_, _^_, _<_, _≤_}
+use Prim.Native.Nat.{ℕ, zero, suc, _+_, _-_, _*_, _/_, _%_, _<_, _≤_}
 use native.Mathlib.Nat.{zero-mul, mul-assoc, mul-right-comm, mul-mod-left, mul-div-cancel, div-add-mod', mul-le-mul-left, eq-of-mul-eq-mul-right}
 use native.Mathlib.Omega.{arith}
-use lib.ListN.{length}
 use lib.Dec.{ltb, eqb}
 use borrow.Author.Tests.{lt-ltb, eqb-true, eqb-false, ltb-true, ltb-false}
 use Rattle.base.specs.Tests.{pick, every}
 use Rattle.ascii.specs.Words.{space}
 use Rattle.ascii.specs.Decimals.{decimal}
 use Rattle.tokens.specs.Bytes.{slash}
-use Rattle.tokens.specs.Tokens.{Read, got, stop, onward, number, blanks}
+use Rattle.tokens.specs.Tokens.{got, onward}
 use Rattle.tokens.specs.Beats.{grainsOfABeat, field, isFraction, valued, fraction, beats}
-use Rattle.tokens.proofs.TokenLaws.{digits-end, digits-over, digits-solid, decimal-all, decimal-some, number-read}
+use Rattle.tokens.proofs.TokenLaws.{digits-end, digits-over, number-read}
 use Rattle.text.specs.Beats.{leastFrom, denominator, numerator, over, beatsText}
 
 module _ (g : ℕ) where

@@ -11,7 +11,6 @@ use Rattle.base.specs.Tests.{pick}
 use Rattle.tokens.specs.Bytes.{isPlain, All}
 use Rattle.tokens.specs.Beats.{field}
 use Rattle.page.specs.declared.Item.{Item}
-use Rattle.items.specs.Items.{isAction}
 use Rattle.text.specs.declared.Stage.the-variants.{Playing}
 use Rattle.text.specs.Words.{messageField}
 use Rattle.text.specs.Grammar.{Line, send, group, close, deeper, shallower, after}

@@ -1,26 +1,25 @@
 -- A line that was written is read there again, and what is left behind it is blank up to the next line.
 -- By the bytes of each kind of line. Assumes nothing.
-use mathlib.Core.Path.{_≡_, refl, sym, ap, _∙_}
-use mathlib.Core.Bool.{Bool, true, false, not}
+use mathlib.Core.Path.{_≡_, refl, ap, _∙_}
+use mathlib.Core.Bool.{true, false}
 use mathlib.Core.List.{List, [], _∷_, _++_, append-assoc}
-use Prim.Native.Nat.{ℕ, zero, suc, _+_, _-_, _*_, _^_, _<_, _≤_}
+use Prim.Native.Nat.{ℕ, zero, suc, _+_, _-_, _*_, _<_, _≤_}
 use native.Mathlib.Omega.{arith}
 use lib.ListN.{length, getD, length-append}
-use lib.Dec.{eqb}
 use borrow.Author.Tests.{ne-eqb, eq-eqb}
 use Rattle.base.specs.Tests.{pick, every, between}
 use Rattle.base.proofs.TestLaws.{between-under, between-low, between-high}
 use Rattle.ascii.specs.Words.{newline, space, zeroDigit, nineDigit, begins, same}
 use Rattle.ascii.specs.Text.{bytesOf}
 use Rattle.ascii.specs.Decimals.{decimal}
-use Rattle.tokens.specs.Bytes.{hash, quote, opening, closing, letterA, letterZ, isBlank, isDigit, isLetter, isPlain, All, none, one, Stops, nothing, here}
-use Rattle.tokens.specs.Tokens.{Read, got, stop, onward, pastBlanks, blanks, leading, behind, isWord, isNumber, number, label}
+use Rattle.tokens.specs.Bytes.{closing, letterA, letterZ, isBlank, isDigit, isLetter, isPlain, All, none, one, Stops, here}
+use Rattle.tokens.specs.Tokens.{Read, got, stop, onward, pastBlanks, blanks, leading, behind, isWord, isNumber, number}
 use Rattle.tokens.specs.Beats.{field, beats}
 use Rattle.tokens.specs.Quoted.{quoted}
 use Rattle.tokens.proofs.TokenLaws.{digits-end, digits-end-line, blanks-spaces, blanks-newline, comment-passed, high-solid, word-leads, decimal-all, decimal-some, number-read, label-read}
 use Rattle.text.specs.declared.Stage.{Stage}
 use Rattle.text.specs.declared.Stage.the-variants.{Start, Listing, Timed, Playing}
-use Rattle.text.specs.Words.{messagesWord, eventWord, partWord, sendWord, groupWord, looseWord, tightWord, localWord, globalWord, partialWord, causalWord, messageField, partField, anyNumber}
+use Rattle.text.specs.Words.{eventWord, partWord, messageField, partField, anyNumber}
 use Rattle.text.specs.Grammar.{Line, heading, message, event, part, send, group, close, pastWord, named, entry, timed, parted, sent, opened, synchronyAt, errorAt, erring, grouped, action, item, closed, line, isOver}
 use Rattle.text.specs.Beats.{denominator, numerator, over, beatsText}
 use Rattle.text.specs.Written.{synchronyWord, errorWord, Spot, indent, remark, lineText}

@@ -11,21 +11,21 @@ use lib.Dec.{ltb, eqb}
 use borrow.Author.Tests.{eq-eqb, ne-eqb, eqb-true, eqb-false, ltb-true, ltb-false}
 use Rattle.base.specs.Tests.{pick}
 use Rattle.contents.specs.declared.Counts.{Counts}
-use Rattle.tokens.specs.Bytes.{isPlain, All, none, one}
+use Rattle.tokens.specs.Bytes.{isPlain, All, one}
 use Rattle.tokens.specs.Beats.{field}
 use Rattle.page.specs.declared.Item.{Item}
 use Rattle.items.specs.declared.Setting.{Setting}
-use Rattle.items.specs.Items.{isAction, withinOf, ownOf, next, inside, inOrder}
+use Rattle.items.specs.Items.{isAction, withinOf, next, inside, inOrder}
 use Rattle.items.proofs.Walked.{Right, Walked, walked-none, walked-item}
 use Rattle.text.specs.declared.Stage.{Stage}
 use Rattle.text.specs.declared.Stage.the-variants.{Listing, Timed, Playing}
 use Rattle.text.specs.Words.{messageField, partField}
 use Rattle.text.specs.Grammar.{Line, event, part, after}
 use Rattle.text.specs.Said.{labelsOf, durationsOf, eventOf, itemsOf}
-use Rattle.text.specs.Written.{Spot, behindLine, itemLines, topLines, partLine, laterEvents, pageLines}
-use Rattle.text.proofs.LineLaws.{Outside, in-list, in-event, in-part, Within, no-part, other-part, may-time, may-part}
+use Rattle.text.specs.Written.{Spot, itemLines, topLines, partLine, laterEvents, pageLines}
+use Rattle.text.proofs.LineLaws.{Outside, in-list, in-event, in-part, no-part, other-part, may-time, may-part}
 use Rattle.text.proofs.TextLaws.{scriptOf, Nested, ends, goes}
-use Rattle.text.proofs.BodyLaws.{Fits, Acts, Holds, Body, body-none, body-action, body-group, body-nested, body-labels, body-durations, body-items}
+use Rattle.text.proofs.BodyLaws.{Fits, Body, body-none, body-action, body-group, body-nested, body-labels, body-durations, body-items}
 
 -- "A top item names its event." "Top items stand by event": from event e on, up to the last.
 pub data Page (ls : List (List ℕ)) (last : ℕ) : (e : ℕ) → List Item → Type 0 where

@@ -1,13 +1,13 @@
 -- "Reading what was written gives the same bytes for every accepted file; the written text is never refused."
 -- The lines of a lawful piece are read back as they stand, and say the piece. Assumes nothing.
-use mathlib.Core.Path.{_≡_, refl, sym, ap, _∙_}
-use mathlib.Core.Bool.{true, false}
+use mathlib.Core.Path.{_≡_, refl, ap, _∙_}
+use mathlib.Core.Bool.{true}
 use mathlib.Core.List.{List, [], _∷_, _++_, append-nil}
 use Prim.Native.Nat.{ℕ, zero, suc, _+_, _<_, _≤_}
 use native.Mathlib.Omega.{arith}
 use lib.ListN.{length, getD}
 use borrow.Author.Tests.{ne-eqb, le-leb, lt-ltb}
-use Rattle.base.specs.Tests.{pick, every}
+use Rattle.base.specs.Tests.{pick}
 use Rattle.base.specs.Checks.{fine, firstFault}
 use Rattle.base.proofs.TestLaws.{every-head, every-rest, between-low, between-high}
 use Rattle.base.proofs.CheckLaws.{first-head, first-rest, first-holds}
@@ -19,7 +19,6 @@ use Rattle.contents.specs.Inner.{Counted}
 use Rattle.contents.proofs.ContentsLaws.{counts-held}
 use Rattle.tokens.specs.Bytes.{isPlain, All, none, one}
 use Rattle.tokens.specs.Beats.{field}
-use Rattle.page.specs.declared.Item.{Item}
 use Rattle.items.proofs.Walked.{table-walked}
 use Rattle.messages.specs.Messages.{labelByte, readable}
 use Rattle.score.specs.Events.{eventsRight}
@@ -28,13 +27,12 @@ use Rattle.score.specs.File.{Accepted}
 use Rattle.score.specs.Encode.{countsIn, encode, labelsRight, Lawful}
 use Rattle.score.proofs.EncodingFiles.{decode-lawful, encode-decode}
 use Rattle.score.proofs.EncodingPieces.{encode-accepted}
-use Rattle.text.specs.declared.Stage.{Stage}
 use Rattle.text.specs.declared.Stage.the-variants.{Start, Listing}
 use Rattle.text.specs.declared.Transcript.the-variants.{Made}
 use Rattle.text.specs.Words.{anyNumber}
-use Rattle.text.specs.Grammar.{Line, heading, message, further, after, script}
-use Rattle.text.specs.Said.{labelsOf, durationsOf, itemsOf, pieceOf, Reading, piece, told, said}
-use Rattle.text.specs.Written.{Spot, behindLine, textOf, pageLines, messageLines, lines, outset, written}
+use Rattle.text.specs.Grammar.{Line, further, after, script}
+use Rattle.text.specs.Said.{labelsOf, durationsOf, itemsOf, pieceOf, piece, told, said}
+use Rattle.text.specs.Written.{Spot, behindLine, pageLines, messageLines, lines, outset, written}
 use Rattle.text.specs.Transcripts.{fileRoom, pieceRight, judged, answered, fileOf, readAnswer}
 use Rattle.text.proofs.LineLaws.{may-head, may-list}
 use Rattle.text.proofs.TextLaws.{scriptOf, Nested, goes, script-written}

@@ -1,16 +1,15 @@
 -- A text that was written has the lines that were written, and no fault.
 -- Line by line, whatever blanks stand before each. Assumes nothing.
-use mathlib.Core.Path.{_≡_, refl, sym, ap, _∙_}
-use mathlib.Core.Bool.{true, false}
-use mathlib.Core.List.{List, [], _∷_, _++_}
-use Prim.Native.Nat.{ℕ, zero, suc, _+_, _≤_}
+use mathlib.Core.Path.{_≡_, refl}
+use mathlib.Core.Bool.{true}
+use mathlib.Core.List.{List, [], _∷_}
+use Prim.Native.Nat.{ℕ, zero, suc, _≤_}
 use native.Mathlib.Omega.{arith}
 use lib.ListN.{length, length-append}
 use Rattle.base.specs.Tests.{pick}
-use Rattle.tokens.specs.Tokens.{got, pastBlanks, blanks}
+use Rattle.tokens.specs.Tokens.{pastBlanks, blanks}
 use Rattle.text.specs.declared.Stage.{Stage}
-use Rattle.text.specs.declared.Stage.the-variants.{Start, Listing, Timed, Playing}
-use Rattle.text.specs.Grammar.{Line, line, after, mayEnd, isOver, Script, done, more, follow, scriptFrom, script}
+use Rattle.text.specs.Grammar.{Line, after, mayEnd, isOver, Script, done, more, follow, scriptFrom, script}
 use Rattle.text.specs.Written.{Spot, lineText, behindLine, textOf}
 use Rattle.text.proofs.LineLaws.{Outside, in-list, in-event, in-part, May, lineLeft, line-read, left-passed, line-not-over, line-some}
 
