@@ -2,7 +2,7 @@
 -- Assumes nothing.
 use mathlib.Core.Path.{_≡_, refl, sym, _∙_}
 use mathlib.Core.Bool.{Bool, true, false}
-use mathlib.Core.List.{List, [], _∷_, _++_, append-assoc}
+use mathlib.Core.List.{List, [], _∷_, _++_, append-assoc, append-nil}
 use Prim.Native.Nat.{ℕ, zero, suc, _+_, _-_, _*_, _/_, _%_, _<_, _≤_}
 use native.Mathlib.Nat.{zero-mul, mul-assoc, mul-right-comm, mul-mod-left, mul-div-cancel, div-add-mod', mul-le-mul-left, eq-of-mul-eq-mul-right}
 use native.Mathlib.Omega.{arith}
@@ -11,7 +11,7 @@ use borrow.Author.Tests.{lt-ltb, eqb-true, eqb-false, ltb-true, ltb-false}
 use Rattle.base.specs.Tests.{pick, every}
 use Rattle.ascii.specs.Words.{space}
 use Rattle.ascii.specs.Decimals.{decimal}
-use Rattle.tokens.specs.Bytes.{slash}
+use Rattle.tokens.specs.Bytes.{slash, isDigit, Stops, nothing, here}
 use Rattle.tokens.specs.Tokens.{got, onward}
 use Rattle.tokens.specs.Beats.{grainsOfABeat, field, isFraction, valued, fraction, beats}
 use Rattle.tokens.proofs.TokenLaws.{digits-end, digits-over, number-read}
@@ -86,6 +86,14 @@ pub beats-value : (g : ℕ) → numerator g * grainsOfABeat ≡ g * denominator 
 unfolding numerator
 beats-value g = omega (arith, div-add-mod' (g * denominator g) grainsOfABeat, denominator-whole g)
 
+abbrev pub isSlash : ℕ → Bool
+isSlash b = eqb b slash
+
+no-fraction : (bs : List ℕ) (n : ℕ) {ys : List ℕ} → Stops isSlash ys → fraction bs n ys ≡ valued bs n 1 ys
+unfolding fraction pick
+no-fraction bs n nothing = refl
+no-fraction bs n (here e) = rw e
+
 module _ (g : ℕ) where
   fraction-whole : numerator g * grainsOfABeat % denominator g ≡ 0
   fraction-whole = rw (beats-value g) (mul-mod-left g (denominator g))
@@ -109,23 +117,32 @@ module _ (g : ℕ) where
     value-read bs left =
         rw (lt-ltb 0 (denominator g) (omega (arith, denominator-some g)), fraction-whole, fraction-value, lt-ltb g field fits)
 
-    -- A delay that was written is read.
-    pub beats-read : (ys : List ℕ) → beats (beatsText g ++ (space ∷ ys)) ≡ got g (space ∷ ys)
+    -- A delay that was written is read, whatever follows that can't go on with it.
+    pub beats-back : (ys : List ℕ) → Stops isDigit ys → Stops isSlash ys → beats (beatsText g ++ ys) ≡ got g ys
     unfolding beats beatsText over onward fraction pick
-    beats-read ys = go (eqb (denominator g) 1) refl where
-      go : (t : Bool) → eqb (denominator g) 1 ≡ t
-          → beats ((decimal (numerator g) ++ pick t [] (slash ∷ decimal (denominator g))) ++ (space ∷ ys)) ≡ got g (space ∷ ys)
+    beats-back ys digits slashes = go (eqb (denominator g) 1) refl where
+      go : (t : Bool) → eqb (denominator g) 1 ≡ t → beats ((decimal (numerator g) ++ pick t [] (slash ∷ decimal (denominator g))) ++ ys) ≡ got g ys
       go true e =
           let one : denominator g ≡ 1 = eqb-true _ _ e in
-          rw (append-assoc (decimal (numerator g)) [] (space ∷ ys), number-read field (numerator g) numerator-fits (omega (arith, numerator-fits)) (digits-end ys))
-          (rw one at (value-read (decimal (numerator g) ++ (space ∷ ys)) (space ∷ ys)))
+          rw (
+            append-assoc (decimal (numerator g)) [] ys,
+            number-read field (numerator g) numerator-fits (omega (arith, numerator-fits)) digits,
+            no-fraction (decimal (numerator g) ++ ys) (numerator g) slashes,
+          )
+          (rw one at (value-read (decimal (numerator g) ++ ys) ys))
       go false e =
           rw (
-            append-assoc (decimal (numerator g)) (slash ∷ decimal (denominator g)) (space ∷ ys),
-            number-read field (numerator g) numerator-fits (omega (arith, numerator-fits)) (digits-over (decimal (denominator g) ++ (space ∷ ys))),
-            number-read field (denominator g) (omega (arith, denominator-most g)) (omega (arith, denominator-most g)) (digits-end ys),
+            append-assoc (decimal (numerator g)) (slash ∷ decimal (denominator g)) ys,
+            number-read field (numerator g) numerator-fits (omega (arith, numerator-fits)) (digits-over (decimal (denominator g) ++ ys)),
+            number-read field (denominator g) (omega (arith, denominator-most g)) (omega (arith, denominator-most g)) digits,
           )
-          (value-read _ (space ∷ ys))
+          (value-read _ ys)
+
+    pub beats-read : (ys : List ℕ) → beats (beatsText g ++ (space ∷ ys)) ≡ got g (space ∷ ys)
+    beats-read ys = beats-back (space ∷ ys) (digits-end ys) (here refl)
+
+    pub beats-alone : beats (beatsText g) ≡ got g []
+    beats-alone = rw append-nil at (beats-back [] nothing nothing)
 
 -- ---- "in lowest terms"
 
