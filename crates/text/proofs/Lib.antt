@@ -11,3 +11,5 @@ pub mod BodyLaws
 pub mod PageLaws
 pub mod RoundTrip
 pub mod Examples
+pub mod SqueezedTokens
+pub mod SqueezedLines

@@ -6,3 +6,4 @@ pub mod Beats
 pub mod Written
 pub mod Replies
 pub mod Transcripts
+pub mod Layout

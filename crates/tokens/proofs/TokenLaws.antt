@@ -116,7 +116,7 @@ unfolding pastBlanks pick
 blanks-solid b bs e n = rw (e, ne-eqb b hash n)
 
 -- Every blank and `#` stands before the digits and the letters.
-high-no-blank : (b : ℕ) → hash < b → isBlank b ≡ false
+pub high-no-blank : (b : ℕ) → hash < b → isBlank b ≡ false
 unfolding isBlank pick
 high-no-blank b p = rw (ne-eqb b 32 (λ q. omega arith), ne-eqb b 9 (λ q. omega arith), ne-eqb b 13 (λ q. omega arith), ne-eqb b 10 (λ q. omega arith))
 
