@@ -13,3 +13,5 @@ pub mod RoundTrip
 pub mod Examples
 pub mod SqueezedTokens
 pub mod SqueezedLines
+pub mod LayoutLaws
+pub mod LayoutExamples

@@ -1,20 +1,20 @@
 -- Each line is read from a text and from the same text without its layout alike.
 -- Assumes nothing.
-use mathlib.Core.Path.{_≡_, refl, sym, ap, _∙_}
+use mathlib.Core.Path.{_≡_, refl}
 use mathlib.Core.Bool.{Bool, true, false}
 use mathlib.Core.List.{List, [], _∷_}
-use Prim.Native.Nat.{ℕ, zero, suc, _<_, _≤_}
+use Prim.Native.Nat.{ℕ, zero, suc}
 use native.Mathlib.Omega.{arith}
 use lib.Dec.{eqb, ltb}
 use borrow.Author.Tests.{eqb-true}
 use Rattle.base.specs.Tests.{pick, every, between}
-use Rattle.tokens.specs.Bytes.{hash, opening, closing, isBlank, isLetter, Stops, nothing, here}
-use Rattle.tokens.specs.Tokens.{Read, got, stop, onward, pastBlanks, blanks, leading, behind, isWord, isNumber, number, label}
+use Rattle.tokens.specs.Bytes.{opening, closing, isLetter, Stops, nothing, here}
+use Rattle.tokens.specs.Tokens.{got, stop, onward, blanks, leading, behind, isWord, isNumber, number}
 use Rattle.tokens.specs.Beats.{beats}
 use Rattle.text.specs.declared.Stage.{Stage}
 use Rattle.text.specs.declared.Stage.the-variants.{Start, Listing, Timed, Playing}
 use Rattle.text.specs.Words.{messagesWord, eventWord, partWord, sendWord, groupWord, looseWord, tightWord, localWord, globalWord, partialWord, causalWord, messageField, partField, anyNumber}
-use Rattle.text.specs.Grammar.{Line, heading, message, event, part, send, group, close, pastWord, named, entry, timed, parted, sent, opened, synchronyAt, errorAt, erring, grouped, action, item, closed, line}
+use Rattle.text.specs.Grammar.{message, event, part, send, group, close, pastWord, named, entry, timed, parted, sent, opened, synchronyAt, errorAt, erring, grouped, action, item, closed, line}
 use Rattle.text.specs.Layout.{inToken, squeezedFrom}
 use Rattle.text.proofs.SqueezedTokens.{blanks-squeezed, high-kept, stops-squeezed, word-squeezed, letters-squeezed, Alike, alike, neither, onward-alike, pick-alike, number-alike, beats-alike, label-alike}
 

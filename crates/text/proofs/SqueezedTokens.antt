@@ -1,19 +1,18 @@
 -- Each token is read from a text and from the same text without its layout alike: the same is read, and what is left behind it is the same without its layout.
 -- Assumes nothing.
-use mathlib.Core.Path.{_≡_, refl, sym, ap, _∙_}
+use mathlib.Core.Path.{_≡_, refl}
 use mathlib.Core.Bool.{Bool, true, false}
 use mathlib.Core.List.{List, [], _∷_}
-use Prim.Native.Nat.{ℕ, suc, _*_, _/_, _<_, _≤_}
+use Prim.Native.Nat.{ℕ, _<_, _≤_}
 use native.Mathlib.Omega.{arith}
 use lib.Dec.{eqb}
 use borrow.Author.Tests.{ne-eqb, eqb-true}
-use Rattle.base.specs.Tests.{pick, every, between}
+use Rattle.base.specs.Tests.{pick}
 use Rattle.base.proofs.TestLaws.{between-low}
-use Rattle.ascii.specs.Words.{newline, space, zeroDigit, nineDigit, same}
-use Rattle.ascii.specs.Numbers.{value}
+use Rattle.ascii.specs.Words.{newline, space, zeroDigit, nineDigit}
 use Rattle.tokens.specs.Bytes.{quote, hash, slash, backslash, letterA, letterZ, isBlank, isDigit, isLetter, isEscaped, Stops, nothing, here}
 use Rattle.tokens.specs.Tokens.{Read, got, stop, onward, pastBlanks, blanks, leading, behind, isWord, isNumber, number, withByte, labelFrom, label}
-use Rattle.tokens.specs.Beats.{field, grainsOfABeat, isFraction, valued, fraction, beats}
+use Rattle.tokens.specs.Beats.{field, isFraction, valued, fraction, beats}
 use Rattle.tokens.proofs.TokenLaws.{none-leads, none-behind, high-no-blank}
 use Rattle.text.specs.Layout.{Lies, inToken, inGap, inComment, inLabel, inEscape, squeezedFrom}
 
