@@ -15,3 +15,4 @@ pub mod SqueezedTokens
 pub mod SqueezedLines
 pub mod LayoutLaws
 pub mod LayoutExamples
+pub mod RelaidLaws

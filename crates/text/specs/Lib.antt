@@ -7,3 +7,4 @@ pub mod Written
 pub mod Replies
 pub mod Transcripts
 pub mod Layout
+pub mod Relaid

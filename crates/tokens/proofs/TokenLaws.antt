@@ -193,7 +193,7 @@ number-read limit n {ys} p q s =
 
 -- ---- a label
 
-plain-byte : (b : ℕ) → isEscaped b ≡ false → (eqb b quote ≡ false) × (eqb b backslash ≡ false)
+pub plain-byte : (b : ℕ) → isEscaped b ≡ false → (eqb b quote ≡ false) × (eqb b backslash ≡ false)
 unfolding isEscaped pick
 plain-byte b e = go (eqb b quote) e where
   go : (t : Bool) → pick t true (eqb b backslash) ≡ false → (t ≡ false) × (eqb b backslash ≡ false)
