@@ -13,7 +13,7 @@ use Rattle.text.specs.Said.{Reading, piece, unread}
 
 -- ---- a text with one space for its blanks
 
--- What the byte before was.
+-- What the bytes before the next one leave off in; a text begins as behind a token.
 pub data Lies : Type 0 where
   inToken : Lies
   inGap : Lies
@@ -39,7 +39,7 @@ squeezedFrom inLabel (b ∷ bs) =
     (pick (eqb b backslash) (squeezedFrom inEscape bs) (squeezedFrom inLabel bs))
 squeezedFrom inEscape (b ∷ bs) = b ∷ squeezedFrom inLabel bs
 
--- The whole of it: none for those before the first token and behind the last.
+-- The whole of a text: no space stands for those before its first token and behind its last.
 unfoldable pub squeezed : List ℕ → List ℕ
 squeezed text = squeezedFrom inToken (blanks text)
 
