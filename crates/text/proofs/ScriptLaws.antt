@@ -8,53 +8,14 @@ use native.Mathlib.Omega.{arith}
 use lib.ListN.{length, drop, length-drop}
 use lib.Dec.{eqb, ltb}
 use Rattle.base.specs.Tests.{pick}
-use Rattle.ascii.specs.Words.{newline}
-use Rattle.tokens.specs.Bytes.{quote, backslash, opening, closing, isLetter, isEscaped}
-use Rattle.tokens.specs.Tokens.{Read, got, stop, onward, blanks, leading, behind, isWord, number, withByte, labelFrom, label}
+use Rattle.tokens.specs.Bytes.{opening, closing, isLetter}
+use Rattle.tokens.specs.Tokens.{Read, got, stop, onward, blanks, leading, behind, isWord, number, label}
 use Rattle.tokens.specs.Beats.{beats}
-use Rattle.tokens.proofs.ShorterLaws.{Shorter, shorter, stuck, blanks-size, leading-size, word-behind, number-shorter, beats-shorter}
+use Rattle.tokens.proofs.ShorterLaws.{Shorter, shorter, stuck, blanks-size, leading-size, word-behind, number-shorter, beats-shorter, Fewer, fewer, unread, label-fewer}
 use Rattle.text.specs.declared.Stage.{Stage}
 use Rattle.text.specs.declared.Stage.the-variants.{Start, Listing, Timed, Playing}
 use Rattle.text.specs.Words.{messagesWord, eventWord, partWord, sendWord, groupWord, messageField, partField, anyNumber}
 use Rattle.text.specs.Grammar.{Line, heading, message, event, part, send, group, close, pastWord, named, entry, timed, parted, sent, opened, synchronyAt, errorAt, erring, grouped, action, item, closed, line, after, isOver, Script, done, more, fault, follow, scriptFrom, script}
-
--- ---- a label stands for fewer bytes than it takes
-
-data Spared (n : ℕ) : Read (List ℕ) → Type 0 where
-  spared : {l left : List ℕ} → length l + length left < n → Spared n (got l left)
-  none : {left : List ℕ} → Spared n (stop left)
-
-spared-byte : {n : ℕ} (b : ℕ) {r : Read (List ℕ)} → Spared n r → Spared (suc n) (withByte b r)
-unfolding withByte
-spared-byte b (spared {l = l} {left = left} p) = spared {l = b ∷ l} {left = left} (omega arith)
-spared-byte b none = none
-
-spared-more : {n : ℕ} {r : Read (List ℕ)} → Spared n r → Spared (suc n) r
-spared-more (spared {l = l} {left = left} p) = spared {l = l} {left = left} (omega arith)
-spared-more none = none
-
-labelled-spared : (e : Bool) (bs : List ℕ) → Spared (length bs) (labelFrom e bs)
-unfolding labelFrom pick
-labelled-spared e [] = none
-labelled-spared true (b ∷ bs) = go (isEscaped b) (labelled-spared false bs) where
-  go : (t : Bool) → Spared (length bs) (labelFrom false bs) → Spared (suc (length bs)) (pick t (withByte b (labelFrom false bs)) (stop (b ∷ bs)))
-  go true r = spared-byte b r
-  go false r = none
-labelled-spared false (b ∷ bs) = go (eqb b quote) (eqb b backslash) (eqb b newline) (labelled-spared true bs) (labelled-spared false bs) where
-  go : (t u v : Bool) → Spared (length bs) (labelFrom true bs) → Spared (length bs) (labelFrom false bs)
-      → Spared (suc (length bs)) (pick t (got [] bs) (pick u (labelFrom true bs) (pick v (stop (b ∷ bs)) (withByte b (labelFrom false bs)))))
-  go true u v r s = spared {l = []} {left = bs} (omega arith)
-  go false true v r s = spared-more r
-  go false false true r s = none
-  go false false false r s = spared-byte b s
-
-label-spared : (bs : List ℕ) → Spared (length bs) (label bs)
-unfolding label pick
-label-spared [] = none
-label-spared (b ∷ bs) = go (eqb b quote) where
-  go : (t : Bool) → Spared (suc (length bs)) (pick t (labelFrom false bs) (stop (b ∷ bs)))
-  go true = spared-more (labelled-spared false bs)
-  go false = none
 
 -- ---- what is read leaves fewer bytes, by those of its label too
 
@@ -90,10 +51,10 @@ word-size bs = omega (arith, blanks-size false (behind isLetter bs), leading-siz
 
 named-leaves : (bs : List ℕ) → Leaves (length bs) (named bs)
 unfolding named onward labelSize
-named-leaves bs = go (label bs) (label-spared bs) where
-  go : (r : Read (List ℕ)) → Spared (length bs) r → Leaves (length bs) (onward r (λ l left. got (message l) left))
-  go (got l left) (spared p) = leaves {l = message l} {left = left} p
-  go (stop left) none = halts
+named-leaves bs = go (label bs) (label-fewer bs) where
+  go : (r : Read (List ℕ)) → Fewer (length bs) r → Leaves (length bs) (onward r (λ l left. got (message l) left))
+  go (got l left) (fewer p) = leaves {l = message l} {left = left} p
+  go (stop left) unread = halts
 
 entry-leaves : (next : ℕ) (bs : List ℕ) → Leaves (length bs) (entry next bs)
 unfolding entry pick
