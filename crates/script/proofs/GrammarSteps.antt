@@ -1,11 +1,11 @@
 -- What may stand where, in the code's own terms: the text's end, and each line that a stage takes.
 -- Assumes nothing.
-use mathlib.Core.Path.{_≡_, refl, sym, ap, _∙_}
+use mathlib.Core.Path.{_≡_, refl, sym, _∙_}
 use mathlib.Core.Bool.{Bool, true, false, not}
-use mathlib.Core.List.{List, [], _∷_}
+use mathlib.Core.List.{List, []}
 use Prim.Native.Nat.{ℕ, zero, suc, _+_, _<_, _≤_}
 use native.Mathlib.Omega.{arith}
-use lib.ListN.{length, drop, getD, drop-of-length-le, length-drop}
+use lib.ListN.{length, drop, drop-of-length-le, length-drop}
 use lib.Seq.{drop-drop}
 use lib.Dec.{eqb}
 use borrow.Author.Needs.{needs}
@@ -13,12 +13,12 @@ use Rattle.base.specs.Tests.{pick}
 use Rattle.base.proofs.TestLaws.{told-true, told-false}
 use Rattle.ascii.proofs.WordSteps.{drop-next}
 use Rattle.tokens.specs.Bytes.{isLetter}
-use Rattle.tokens.specs.Tokens.{Read, got, stop, behind, isWord}
+use Rattle.tokens.specs.Tokens.{behind, isWord}
 use Rattle.tokens.proofs.ShorterLaws.{word-behind}
 use Rattle.text.specs.declared.Stage.{Stage}
 use Rattle.text.specs.declared.Stage.the-variants.{Start, Listing, Timed, Playing}
 use Rattle.text.specs.Words.{messagesWord, eventWord, partWord}
-use Rattle.text.specs.Grammar.{Line, heading, entry, timed, parted, item, closed, line, mayEnd, isOver}
+use Rattle.text.specs.Grammar.{entry, timed, parted, item, closed, line, mayEnd, isOver}
 use Rattle.script.specs.declared.Found.the-variants.{Heading}
 use Rattle.script.specs.declared.Step.{Step}
 use Rattle.script.specs.Steps.{PassesWord, faultAt, lineOf, asLine, Lines, fits-heading}

@@ -5,3 +5,4 @@ pub mod GrammarSteps
 pub mod StageSteps
 pub mod ScriptSteps
 pub mod TallySteps
+pub mod BalancedLaws

@@ -1,25 +1,24 @@
 -- Each way in which a line is read, in the code's own terms: what the calls told decides.
 -- Assumes nothing.
-use mathlib.Core.Path.{_≡_, refl, sym, ap, _∙_}
+use mathlib.Core.Path.{_≡_, refl, sym, _∙_}
 use mathlib.Core.Bool.{Bool, true, false, not}
 use mathlib.Core.List.{List, [], _∷_}
-use Prim.Native.Nat.{ℕ, _+_, _-_, _<_, _≤_}
+use Prim.Native.Nat.{ℕ, _+_, _<_, _≤_}
 use native.Mathlib.Omega.{arith}
 use lib.ListN.{length, drop, getD, drop-of-length-le}
-use lib.Dec.{eqb}
 use borrow.Author.Tests.{eq-eqb, ne-eqb, lt-ltb, le-ltb, not-true, not-false}
 use borrow.Author.Needs.{needs}
 use Rattle.base.specs.Tests.{pick}
 use Rattle.ascii.proofs.WordSteps.{drop-next}
 use Rattle.tokens.specs.declared.Token.{Token}
 use Rattle.tokens.specs.Bytes.{opening, closing}
-use Rattle.tokens.specs.Tokens.{Read, got, stop, onward, blanks, isWord, number, label, isRead, bytesIn}
+use Rattle.tokens.specs.Tokens.{Read, got, stop, onward, isWord, number, label, isRead, bytesIn}
 use Rattle.tokens.specs.Beats.{field, beats}
-use Rattle.tokens.specs.Asked.{Passes, asRead, Reads, sizedFrom, Sizes}
+use Rattle.tokens.specs.Asked.{Passes, Reads, sizedFrom, Sizes}
 use Rattle.tokens.proofs.ShorterLaws.{read-got, read-stop}
 use Rattle.text.specs.Words.{sendWord, groupWord, messageField, partField, anyNumber}
-use Rattle.text.specs.Grammar.{Line, message, event, part, send, group, close, pastWord, named, entry, timed, parted, sent, opened, synchronyAt, errorAt, erring, grouped, action, item, closed}
-use Rattle.script.specs.declared.Found.the-variants.{Message, Event, Part, Send, Group, Close, Fault}
+use Rattle.text.specs.Grammar.{Line, message, named, entry, timed, parted, sent, opened, synchronyAt, errorAt, erring, grouped, action, item, closed}
+use Rattle.script.specs.declared.Found.the-variants.{Message, Event, Part, Send, Group, Close}
 use Rattle.script.specs.declared.Step.{Step}
 use Rattle.script.specs.Steps.{PassesWord, faultAt, lineOf, asLine, Lines, fits-message, fits-event, fits-part, fits-send, fits-group, fits-close, fits-fault}
 

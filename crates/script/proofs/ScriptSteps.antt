@@ -1,22 +1,22 @@
 -- What a line that was read says of the lines of the text, in the code's own terms.
 -- Assumes nothing.
-use mathlib.Core.Path.{_≡_, refl, sym, ap, _∙_}
-use mathlib.Core.Bool.{Bool, true, false}
+use mathlib.Core.Path.{_≡_, refl, sym, _∙_}
+use mathlib.Core.Bool.{true, false}
 use mathlib.Core.List.{List}
-use Prim.Native.Nat.{ℕ, _+_, _-_, _<_, _≤_}
+use Prim.Native.Nat.{ℕ, _+_, _-_, _<_}
 use native.Mathlib.Omega.{arith}
 use lib.ListN.{length, drop, length-drop}
 use borrow.Author.Needs.{needs}
 use Rattle.base.specs.Tests.{pick}
-use Rattle.tokens.specs.Tokens.{Read, got, stop, blanks, label, bytesIn}
+use Rattle.tokens.specs.Tokens.{got, stop, blanks}
 use Rattle.tokens.specs.Asked.{Passes}
 use Rattle.text.specs.declared.Stage.{Stage}
-use Rattle.text.specs.Grammar.{Line, line, after, isOver, Script, done, more, fault, follow, script}
+use Rattle.text.specs.Grammar.{line, isOver, done, more, fault, follow, script}
 use Rattle.text.proofs.ScriptLaws.{script-follow, labelSize, line-spares}
 use Rattle.script.specs.declared.Found.{Found}
 use Rattle.script.specs.declared.Found.the-variants.{Heading, Message, Event, Part, Send, Group, Close, Fault}
 use Rattle.script.specs.declared.Step.{Step}
-use Rattle.script.specs.Steps.{lineOf, lineIn, isFault, asLine, Fits, fits-heading, fits-message, fits-event, fits-part, fits-send, fits-group, fits-close, fits-fault, Lines}
+use Rattle.script.specs.Steps.{lineOf, lineIn, isFault, asLine, Fits, fits-message, Lines}
 use Rattle.script.specs.Stages.{stageAfter}
 use Rattle.script.specs.Tallies.{sizeIn}
 use Rattle.script.proofs.StageSteps.{after-line}

@@ -1,13 +1,13 @@
 -- What may stand behind a line, in the code's own terms: each case of the line and of the stage.
 -- Assumes nothing.
-use mathlib.Core.Path.{_≡_, refl, sym, ap, _∙_}
+use mathlib.Core.Path.{_≡_, sym}
 use mathlib.Core.List.{List}
-use Prim.Native.Nat.{ℕ, suc, _+_, _-_, _<_, _≤_, _^_}
+use Prim.Native.Nat.{ℕ, _+_, _-_, _<_, _≤_, _^_}
 use native.Mathlib.Numerals.{add-one}
 use native.Mathlib.Omega.{arith}
 use lib.ListN.{drop}
 use borrow.Author.Needs.{needs}
-use Rattle.tokens.specs.Tokens.{Read, got, stop, label, bytesIn}
+use Rattle.tokens.specs.Tokens.{got, label, bytesIn}
 use Rattle.text.specs.declared.Stage.{Stage}
 use Rattle.text.specs.declared.Stage.the-variants.{Start, Listing, Timed, Playing}
 use Rattle.text.specs.Grammar.{Line, heading, message, event, part, send, group, close, after, further, deeper, shallower}

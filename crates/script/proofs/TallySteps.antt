@@ -13,7 +13,7 @@ use Rattle.score.specs.Encode.{countsIn}
 use Rattle.tokens.specs.Asked.{Passes}
 use Rattle.text.specs.declared.Stage.{Stage}
 use Rattle.text.specs.declared.Stage.the-variants.{Start}
-use Rattle.text.specs.Grammar.{Line, line, isOver, Script, done, more, fault, script}
+use Rattle.text.specs.Grammar.{line, isOver, Script, done, more, fault, script}
 use Rattle.text.specs.Said.{pieceOf, told, said}
 use Rattle.text.proofs.CountLaws.{countedLine, countedFrom, uncounted, counted-piece}
 use Rattle.script.specs.declared.Found.{Found}

@@ -1,5 +1,4 @@
 // An entry of the message list: number label.
-ghost use mathlib.Core.Path.{_≡_};
 ghost use Prim.Native.Nat.{_≤_};
 ghost use lib.ListN.{length, drop};
 ghost use Rattle.text.specs.Grammar.{named, entry};

@@ -1,21 +1,20 @@
 -- Each line takes a byte, so the bound on the recursion never matters: a text's lines are its first line and those of what is left behind it.
 -- Assumes nothing.
-use mathlib.Core.Path.{_≡_, refl, sym, ap, _∙_}
+use mathlib.Core.Path.{_≡_, refl, ap}
 use mathlib.Core.Bool.{Bool, true, false}
 use mathlib.Core.List.{List, [], _∷_}
-use Prim.Native.Nat.{ℕ, zero, suc, _+_, _-_, _<_, _≤_}
+use Prim.Native.Nat.{ℕ, zero, suc, _+_, _<_, _≤_}
 use native.Mathlib.Omega.{arith}
 use lib.ListN.{length, drop, length-drop}
 use lib.Dec.{eqb, ltb}
 use Rattle.base.specs.Tests.{pick}
 use Rattle.tokens.specs.Bytes.{opening, closing, isLetter}
-use Rattle.tokens.specs.Tokens.{Read, got, stop, onward, blanks, leading, behind, isWord, number, label}
-use Rattle.tokens.specs.Beats.{beats}
+use Rattle.tokens.specs.Tokens.{Read, got, stop, onward, blanks, behind, isWord, label}
 use Rattle.tokens.proofs.ShorterLaws.{Shorter, shorter, stuck, blanks-size, leading-size, word-behind, number-shorter, beats-shorter, Fewer, fewer, unread, label-fewer}
 use Rattle.text.specs.declared.Stage.{Stage}
 use Rattle.text.specs.declared.Stage.the-variants.{Start, Listing, Timed, Playing}
 use Rattle.text.specs.Words.{messagesWord, eventWord, partWord, sendWord, groupWord, messageField, partField, anyNumber}
-use Rattle.text.specs.Grammar.{Line, heading, message, event, part, send, group, close, pastWord, named, entry, timed, parted, sent, opened, synchronyAt, errorAt, erring, grouped, action, item, closed, line, after, isOver, Script, done, more, fault, follow, scriptFrom, script}
+use Rattle.text.specs.Grammar.{Line, heading, message, event, part, send, group, close, pastWord, named, entry, timed, parted, sent, opened, synchronyAt, errorAt, erring, grouped, action, item, closed, line, after, isOver, Script, done, more, follow, scriptFrom, script}
 
 -- ---- what is read leaves fewer bytes, by those of its label too
 
