@@ -14,14 +14,14 @@ use Rattle.contents.specs.declared.Reply.{Reply}
 use Rattle.session.specs.declared.Refusal.{Refusal}
 use Rattle.session.specs.Replies.{refusalRow}
 use Rattle.text.specs.declared.Transcript.{Transcript}
-use Rattle.text.specs.declared.Transcript.the-variants.{BadText}
+use Rattle.text.specs.declared.Transcript.the-variants.{NoRoom, BadText}
 use Rattle.text.specs.declared.TextReply.{TextReply}
 use Rattle.text.specs.Replies.{transcriptRow}
 use Rattle.wording.specs.Words.{refusalWords, transcriptWords}
 use Rattle.refusals.specs.declared.entries.Entry.{Entry}
 use Rattle.refusals.specs.Entries.{entryAt, entryWords}
 use Rattle.refusals.specs.Line.{placeWords}
-use Rattle.refusals.specs.Texts.{spotWords, toldEnd, toldWords, misreadLine, refusedHead, unmadeWords, refusedEnd, unmadeLine}
+use Rattle.refusals.specs.Texts.{spotWords, toldEnd, toldWords, misreadLine, roomLine, refusedHead, unmadeWords, refusedEnd, unmadeLine}
 
 module _ (o m₁ m₂ n : List ℕ) (at a b r : ℕ) where
   -- three pieces
@@ -54,6 +54,10 @@ pub lay-misread : (o m n name : List ℕ) (a r l c : ℕ) → Laid o 0 (spotWord
 unfolding misreadLine
 lay-misread o m n name a r l c p q = laid-join o m n _ _ 0 a r p q
 
+pub lay-room : (o m n name : List ℕ) (a r : ℕ) → Laid o 0 name m a → Laid m a (toldWords NoRoom) n r → Laid o 0 (roomLine name) n r
+unfolding roomLine
+lay-room o m n name a r p q = laid-join o m n _ _ 0 a r p q
+
 pub lay-head : (o m n name : List ℕ) (a r : ℕ) (x : Refusal) (row : Reply) → row ≡ refusalRow x → Laid o 0 name m a → Laid m a (bytesOf ": refused " ++ decimal (row .number)) n r → Laid o 0 (refusedHead name x) n r
 unfolding refusedHead
 lay-head o m n name a r x row h p q = rw (← h) (laid-join o m n _ _ 0 a r p q)
@@ -62,4 +66,4 @@ pub lay-whole : (o m₁ m₂ n name : List ℕ) (a b r : ℕ) (c : Counts) (x : 
 unfolding unmadeLine
 lay-whole o m₁ m₂ n name a b r c x p q s = three o m₁ m₂ n 0 a b r _ _ _ p q s
 
-pub ruleset telling = (lay-spot, lay-told-end, lay-told, lay-misread, lay-head, lay-unmade, lay-end, lay-whole, needs)
+pub ruleset telling = (lay-spot, lay-told-end, lay-told, lay-misread, lay-room, lay-head, lay-unmade, lay-end, lay-whole, needs)

@@ -9,7 +9,7 @@ use Rattle.contents.specs.declared.Counts.{Counts}
 use Rattle.session.specs.declared.Refusal.{Refusal}
 use Rattle.session.specs.Replies.{refusalRow}
 use Rattle.text.specs.declared.Transcript.{Transcript}
-use Rattle.text.specs.declared.Transcript.the-variants.{BadText}
+use Rattle.text.specs.declared.Transcript.the-variants.{NoRoom, BadText}
 use Rattle.text.specs.Replies.{transcriptRow}
 use Rattle.wording.specs.Words.{refusalWords, transcriptWords}
 use Rattle.refusals.specs.Entries.{entryAt, entryWords}
@@ -30,6 +30,10 @@ toldWords t = (bytesOf ": refused " ++ decimal (transcriptRow t .number)) ++ tol
 
 unfoldable pub misreadLine : (name : List ℕ) → (line column : ℕ) → List ℕ
 misreadLine name l c = spotWords name l c ++ toldWords (BadText l c)
+
+-- A room too short has no place in the text.
+unfoldable pub roomLine : (name : List ℕ) → List ℕ
+roomLine name = name ++ toldWords NoRoom
 
 -- Room for each: the numbers have at most 20 digits.
 abbrev pub spotRoom : ℕ

@@ -3,6 +3,7 @@ pub use entries::Entry;
 pub use entries::entry_at;
 pub use line::refusal_line;
 pub use texts::misread_line;
+pub use texts::room_line;
 pub use texts::unmade_line;
 
 mod entries;

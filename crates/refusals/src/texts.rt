@@ -3,7 +3,7 @@ ghost use Prim.Native.Nat.{_+_, _≤_};
 ghost use lib.ListN.{length};
 ghost use Rattle.ascii.specs.Laying.{Laid};
 ghost use Rattle.text.specs.declared.Transcript.the-variants.{BadText};
-ghost use Rattle.refusals.specs.Texts.{spotWords, toldEnd, toldWords, misreadLine, spotRoom, toldRoom, refusedHead, unmadeWords, refusedEnd, unmadeLine, headRoom, unmadeRoom, endRoom, textLineRoom};
+ghost use Rattle.refusals.specs.Texts.{spotWords, toldEnd, toldWords, misreadLine, roomLine, spotRoom, toldRoom, refusedHead, unmadeWords, refusedEnd, unmadeLine, headRoom, unmadeRoom, endRoom, textLineRoom};
 use crate::entries::entry_at;
 use crate::entries::put_entry;
 use crate::line::put_place;
@@ -55,6 +55,15 @@ pub fn misread_line(out: &mut [u8], name: &[u8], line: usize, column: usize) -> 
 {
     let at = put_spot(out, name, line, column);
     put_told(out, at, Transcript::BadText { line, column })
+}
+
+// The line of a room too short, from the front of `out`. Answers its length.
+pub fn room_line(out: &mut [u8], name: &[u8]) -> usize
+    requires { ⌜ textLineRoom + length (now name) ≤ length (now out) ⌝ }
+    ensures { λ r. ⌜ Laid (now (out .entry)) 0 (roomLine (now (name .entry))) (now (out .exit)) r ⌝ }
+{
+    let at = put_bytes(out, 0, name);
+    put_told(out, at, Transcript::NoRoom)
 }
 
 // The name and the number of a refusal from the front of `out`.
