@@ -23,6 +23,6 @@ unfoldable pub foundAt : List Reason → List ℕ → ℕ
 foundAt [] bytes = 0
 foundAt (r ∷ rs) bytes = pick (begins (r .words) bytes) 0 (suc (foundAt rs bytes))
 
-pub reasons-apart : map (λ (r : Reason). foundAt reasonTable (r .words)) reasonTable ≡ (0 ∷ 1 ∷ 2 ∷ 3 ∷ 0 ∷ 5 ∷ 6 ∷ 7 ∷ 8 ∷ 9 ∷ 10 ∷ [])
+pub reasons-apart : map (λ (r : Reason). foundAt reasonTable (r .words)) reasonTable ≡ (0 ∷ 1 ∷ 2 ∷ 3 ∷ 0 ∷ 5 ∷ 6 ∷ 7 ∷ 8 ∷ 9 ∷ 10 ∷ 11 ∷ 12 ∷ [])
 unfolding foundAt begins pick reasonTable
 reasons-apart = refl

@@ -17,7 +17,7 @@ pub record Reason : Type 0 where
 abbrev pub reason : (number : ℕ) (words : String) → Reason
 reason number words = record { number = number; words = bytesOf words }
 
--- The errors that people meet. Linux calls them EPERM, ENOENT, EIO, EBADF, EACCES, ENOTDIR, EISDIR, ENOSPC, EROFS, ENAMETOOLONG and ELOOP.
+-- The errors that people meet. Linux calls them EPERM, ENOENT, EIO, EBADF, EACCES, EEXIST, ENOTDIR, EISDIR, EFBIG, ENOSPC, EROFS, ENAMETOOLONG and ELOOP.
 unfoldable pub reasonTable : List Reason
 reasonTable =
     reason 1 "no permission"
@@ -25,8 +25,10 @@ reasonTable =
     ∷ reason 5 "the disk or the device has failed"
     ∷ reason 9 "closed"
     ∷ reason 13 "no permission"
+    ∷ reason 17 "ten .part files are in the way"
     ∷ reason 20 "the name leads through a file"
     ∷ reason 21 "a folder"
+    ∷ reason 27 "too large"
     ∷ reason 28 "the disk is full"
     ∷ reason 30 "the disk can only be read"
     ∷ reason 36 "the name is too long"

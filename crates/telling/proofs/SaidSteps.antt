@@ -18,7 +18,7 @@ use Rattle.ascii.specs.Text.{bytesOf}
 use Rattle.ascii.proofs.LayLaws.{laid-join}
 use Rattle.session.specs.declared.Refusal.{Refusal}
 use Rattle.refusals.specs.Line.{refusalLine, refusalRoom}
-use Rattle.reasons.specs.Reasons.{unreadLine, reasonLineRoom}
+use Rattle.reasons.specs.Reasons.{unreadLine, unwrittenLine, reasonLineRoom}
 use Rattle.telling.specs.Said.{mostName, saidRoom, toldName, ofFile, refusedName, refusedLine, unopenedLine}
 
 -- ---- names
@@ -53,6 +53,9 @@ module _ (o m name : List ℕ) (n a : ℕ) (e : take n name ≡ toldName name) w
   pub lay-unread : (z : ℤ) → SFits w32 z → Laid o 0 (unreadLine (take n name) (toZ w32 (ofZ w32 z))) m a → Laid o 0 (unreadLine (toldName name) z) m a
   lay-unread z f p = rw (toZ-ofZ f, e) at p
 
+  pub lay-unwritten : (z : ℤ) → SFits w32 z → Laid o 0 (unwrittenLine (take n name) (toZ w32 (ofZ w32 z))) m a → Laid o 0 (unwrittenLine (toldName name) z) m a
+  lay-unwritten z f p = rw (toZ-ofZ f, e) at p
+
   pub lay-refused : (file : List ℕ) (x : Refusal) → Laid o 0 (refusalLine (take n name) file x) m a → Laid o 0 (refusedLine name file x) m a
   unfolding refusedLine
   lay-refused file x p = rw e at p
@@ -62,7 +65,7 @@ module _ (o m name : List ℕ) (n a : ℕ) (e : take n name ≡ toldName name) w
   unfolding unopenedLine
   lay-unopened l r p q = laid-join o m l _ _ 0 a r (rw e at p) q
 
-pub ruleset saying = (unread-fits, line-fits, lay-unread, lay-refused, length-take-le, needs)
+pub ruleset saying = (unread-fits, line-fits, lay-unread, lay-unwritten, lay-refused, length-take-le, needs)
 
 -- There is room for the words behind the name.
 pub words-fit : (o m name : List ℕ) (n a : ℕ) → n ≤ mostName → saidRoom ≤ length o → Laid o 0 (take n name) m a

@@ -5,7 +5,7 @@ ghost use Prim.Native.Nat.{_≤_};
 ghost use lib.ListN.{length, take};
 ghost use Rattle.base.specs.Tests.{pick};
 ghost use Rattle.ascii.specs.Laying.{Laid};
-ghost use Rattle.reasons.specs.Reasons.{unreadLine};
+ghost use Rattle.reasons.specs.Reasons.{unreadLine, unwrittenLine};
 ghost use Rattle.telling.specs.Openings.{tellsRefusal, tellsUnopened};
 ghost use Rattle.telling.specs.Said.{mostName, saidRoom, toldName, ofFile, refusedName, refusedLine, unopenedLine};
 use ascii::put_bytes;
@@ -43,6 +43,22 @@ fn put_unread(text: &mut [u8], name: &[u8], error: i32) -> usize
 pub fn say_unread(name: &[u8], error: i32) {
     let mut text = [0u8; SAID_ROOM];
     let n = put_unread(&mut text, name, error);
+    streams::say_first(&text, n);
+}
+
+// ---- an output that can't be written
+
+fn put_unwritten(text: &mut [u8], name: &[u8], error: i32) -> usize
+    requires { ⌜ saidRoom ≤ length (now text) ⌝ }
+    ensures { λ r. ⌜ Laid (now (text .entry)) 0 (unwrittenLine (toldName (now (name .entry))) error) (now (text .exit)) r ⌝ }
+{
+    let n = told(name);
+    reasons::unwritten_line(text, &name[..n], error)
+}
+
+pub fn say_unwritten(name: &[u8], error: i32) {
+    let mut text = [0u8; SAID_ROOM];
+    let n = put_unwritten(&mut text, name, error);
     streams::say_first(&text, n);
 }
 
