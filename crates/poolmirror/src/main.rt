@@ -4,6 +4,7 @@ ghost use Prim.Native.Nat.{_+_, _≤_};
 ghost use lib.ListN.{length};
 use checking::Tally;
 use disk::FileRead;
+use disk::Saved;
 use libc::PATH_MAX;
 use menu::Command;
 use orders::Order;
@@ -12,9 +13,13 @@ use playing::OUTPUT_ROOM;
 use session::layout::MEMORY_SIZE;
 use session::layout::ROOM_SIZE;
 use streams::Ending;
+use text::Transcript;
 
 // More than any score has, so that a longer file is refused for its length.
 const FILE_ROOM: usize = 65536;
+
+// The longest text that is read from here, and one byte more: four times what any score needs.
+const TEXT_ROOM: usize = 1048577;
 
 // Room for any line, with a name of any length in it, and for any page of words.
 const LINE_ROOM: usize = 8192;
@@ -250,6 +255,116 @@ fn play(o: Order, score: &mut [u8], list: &mut [u8], file: &mut [u8], out: &mut 
     play_score(score, n, &list[from..listed], input, file, out)
 }
 
+// ---- read and write
+
+// What can't be written is told.
+fn unwritten(name: &[u8], error: i32) -> Ending {
+    telling::say_unwritten(name, error);
+    orders::ending_if(false)
+}
+
+fn tell_saved(name: &[u8], s: Saved) -> Ending {
+    match s {
+        Saved::Whole => orders::ending_if(true),
+        Saved::NotMade(error) => unwritten(name, error),
+        Saved::NotWritten(error) => unwritten(name, error),
+        Saved::NotSafe(error) => unwritten(name, error),
+        Saved::NotRenamed(error) => unwritten(name, error),
+    }
+}
+
+// What was made goes to standard output, or into the file of this name: whole or not at all.
+fn save_named(name: &mut [u8], n: usize, made: &[u8]) -> Ending
+    requires { ⌜ (n ≤ length (now name)) × (length (now name) ≡ 4096) ⌝ }
+{
+    let from = 0;
+    if orders::is_standard(&name[from..n]) {
+        return orders::ending_if(streams::print(made, made.len()));
+    }
+    let s = disk::save(&name[from..n], made);
+    let shown = orders::show(name, n);
+    tell_saved(&name[from..shown], s)
+}
+
+// The first bytes of the room, as many as the reply says, where it was granted.
+fn save_made(name: &mut [u8], n: usize, room: &[u8], t: Transcript) -> Ending
+    requires { ⌜ (n ≤ length (now name)) × (length (now name) ≡ 4096) ⌝ }
+{
+    let size = text::replied_text(t).size;
+    if room.len() < size {
+        return orders::ending_if(false);
+    }
+    let from = 0;
+    save_named(name, n, &room[from..size])
+}
+
+// What is refused is said, in the first n bytes of `out`; nothing is where something was made, and that is saved.
+fn settle(out: &[u8], n: usize, made: &mut [u8], m: usize, room: &[u8], t: Transcript) -> Ending
+    requires { ⌜ (m ≤ length (now made)) × (length (now made) ≡ 4096) ⌝ }
+{
+    if 0 < n {
+        streams::say_first(out, n);
+        return transcribing::ending_of(t);
+    }
+    save_made(made, m, room, t)
+}
+
+fn read_score(name: &[u8], text: &[u8], made: &mut [u8], m: usize, out: &mut [u8]) -> Ending
+    requires { ⌜ (length (now name) ≤ 4096) × (m ≤ length (now made)) × (length (now made) ≡ 4096) × (8192 ≤ length (now out)) ⌝ }
+{
+    let mut room = [0u8; FILE_ROOM];
+    let t = reader::read_text(text, &mut room);
+    let n = transcribing::read_line(out, name, text, t);
+    settle(out, n, made, m, &room, t)
+}
+
+// `read TEXT FILE`: the text is read whole before anything is written.
+fn read(o: Order, name: &mut [u8], made: &mut [u8], out: &mut [u8]) -> Ending
+    requires { ⌜ (length (now name) ≡ 4096) × (length (now made) ≡ 4096) × (8192 ≤ length (now out)) ⌝ }
+{
+    let mut text = [0u8; TEXT_ROOM];
+    let from = 0;
+    let names = o.names;
+    let n = read_argument(names.first, name);
+    let m = read_argument(names.second, made);
+    let got = read_named(&name[from..n], &mut text);
+    let shown = orders::show(name, n);
+    if got.error != 0 {
+        return unread(&name[from..shown], got.error);
+    }
+    let size = got.count;
+    if TEXT_ROOM <= size {
+        return unread(&name[from..shown], libc::EFBIG);
+    }
+    read_score(&name[from..shown], &text[from..size], made, m, out)
+}
+
+fn write_score(name: &[u8], file: &[u8], made: &mut [u8], m: usize, out: &mut [u8]) -> Ending
+    requires { ⌜ (length (now name) ≤ 4096) × (m ≤ length (now made)) × (length (now made) ≡ 4096) × (8192 ≤ length (now out)) ⌝ }
+{
+    let mut room = [0u8; writer::TEXT_ROOM];
+    let t = writer::write_text(file, &mut room);
+    let n = transcribing::write_line(out, name, file, t);
+    settle(out, n, made, m, &room, t)
+}
+
+// `write FILE TEXT`
+fn write(o: Order, name: &mut [u8], made: &mut [u8], file: &mut [u8], out: &mut [u8]) -> Ending
+    requires { ⌜ (length (now name) ≡ 4096) × (length (now made) ≡ 4096) × (8192 ≤ length (now out)) ⌝ }
+{
+    let from = 0;
+    let names = o.names;
+    let n = read_argument(names.first, name);
+    let m = read_argument(names.second, made);
+    let got = read_named(&name[from..n], file);
+    let shown = orders::show(name, n);
+    if got.error != 0 {
+        return unread(&name[from..shown], got.error);
+    }
+    let size = got.count;
+    write_score(&name[from..shown], &file[from..size], made, m, out)
+}
+
 // ---- words
 
 fn help(out: &mut [u8]) -> Ending
@@ -289,6 +404,8 @@ fn carry_out(o: Order, arg: &mut [u8], out: &mut [u8]) -> Ending
     match c {
         Command::Check => check(arg, &mut file, out),
         Command::Play => play(o, arg, &mut list, &mut file, out),
+        Command::Read => read(o, arg, &mut list, out),
+        Command::Write => write(o, arg, &mut list, &mut file, out),
         Command::Replies => replies(out),
         Command::Help => help(out),
     }
