@@ -5,8 +5,12 @@ use sequencer::Report;
 use sequencer::Sending;
 use session::layout::MEMORY_SIZE;
 use session::layout::ROOM_SIZE;
+use text::Transcript;
+use writer::TEXT_ROOM;
 
 const OUT: i32 = 1;
+
+const FILE_ROOM: usize = 52256;
 
 // All sixteen parts, and the fastest tempo.
 const ALL: u16 = 65535;
@@ -85,6 +89,36 @@ fn run_session(word: &[u8], mem: &mut [u64], room: &mut [u64], opened: Told) -> 
     opened
 }
 
+fn tell_transcript(t: Transcript) -> Told {
+    let r = text::replied_text(t);
+    Told {
+        number: r.number,
+        figure: r.size as u64 % 65536,
+    }
+}
+
+// The text of the score, read again.
+fn read_again(written: &[u8], size: usize) -> Told {
+    let mut room = [0u8; FILE_ROOM];
+    if written.len() < size {
+        return Told {
+            number: 0,
+            figure: 0,
+        };
+    }
+    tell_transcript(reader::read_text(&written[..size], &mut room))
+}
+
+// The score written as text, and, for another word, that text read.
+fn run_text(word: &[u8], file: &[u8]) -> Told {
+    let mut written = [0u8; TEXT_ROOM];
+    let t = writer::write_text(file, &mut written);
+    if same(word, b"page") {
+        return tell_transcript(t);
+    }
+    read_again(&written, text::replied_text(t).size)
+}
+
 fn run(word: &[u8], file: &[u8], mem: &mut [u64], room: &mut [u64]) -> Told {
     if same(word, b"none") {
         return Told {
@@ -97,6 +131,12 @@ fn run(word: &[u8], file: &[u8], mem: &mut [u64], room: &mut [u64]) -> Told {
     }
     if same(word, b"text") {
         return tell_check(score::label_reply(file, 511));
+    }
+    if same(word, b"page") {
+        return run_text(word, file);
+    }
+    if same(word, b"read") {
+        return run_text(word, file);
     }
     let opened = open_score(mem, file);
     run_session(word, mem, room, opened)
