@@ -18,8 +18,8 @@ use text::Transcript;
 // More than any score has, so that a longer file is refused for its length.
 const FILE_ROOM: usize = 65536;
 
-// The longest text that is read from here, and one byte more: four times what any score needs.
-const TEXT_ROOM: usize = 1048577;
+// The longest text that is read from here, and one byte more: sixteen times what any score needs.
+const TEXT_ROOM: usize = 4194305;
 
 // Room for any line, with a name of any length in it, and for any page of words.
 const LINE_ROOM: usize = 8192;
