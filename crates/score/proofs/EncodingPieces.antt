@@ -1,4 +1,5 @@
--- "So every score has one file", from the piece: a lawful piece's file is accepted and says this piece. By what stands at each of the file's bodies.
+-- "So every score has one file", from the piece: a lawful piece's file is accepted and says this piece. By what stands at each of the file's bodies, wherever its
+-- numbers fit their fields.
 -- Assumes nothing.
 use mathlib.Core.Path.{_≡_, refl, sym, ap, _∙_}
 use mathlib.Core.Bool.{true}
@@ -11,22 +12,20 @@ use borrow.Author.Tests.{eq-eqb, le-leb}
 use Rattle.page.specs.declared.Item.{Item}
 use Rattle.base.specs.Checks.{fine, need, firstFault}
 use Rattle.base.proofs.TestLaws.{every-head, every-rest, between-high}
-use Rattle.base.proofs.CheckLaws.{first-head, first-rest, first-holds}
-use Rattle.contents.specs.declared.Fault.the-variants.{BadEvent}
 use Rattle.contents.specs.declared.Counts.{Counts}
-use Rattle.contents.specs.Limits.{contentsSize, eventSize, itemSize, messageSize, longest, longestLabel, mostText}
+use Rattle.contents.specs.Limits.{contentsSize, eventSize, itemSize, messageSize, longestLabel, mostText}
 use Rattle.contents.specs.Contents.{offsetsOf, countsOf, countsRight, offsetsRight, eventsAt, itemsAt, messagesAt, textAt, sizeOf}
 use Rattle.contents.specs.Inner.{Counted}
 use Rattle.items.specs.Items.{itemsFrom}
 use Rattle.messages.specs.Messages.{labelByte, readable, labelsAt, messagesRight}
-use Rattle.score.specs.Events.{durationsAt, eventsRight}
+use Rattle.score.specs.Events.{durationsAt}
 use Rattle.score.specs.Piece.{Piece, decode}
 use Rattle.score.specs.File.{bodiesRight, checked, Accepted}
 use Rattle.score.specs.Encode.{le16, le32, contentsBytes, durationBytes, itemBytes, entryBytes, textBytes, countsIn, encode, labelsRight, Lawful}
 use Rattle.contents.proofs.ContentsLaws.{counts-held}
-use Rattle.items.proofs.Ranges.{Ranges, none, more, table-ranges}
 use Rattle.score.proofs.EncodingBytes.{Bytes, empty, byte, bytes-append, bytes-at, le16-bytes, le32-bytes, le32-length, drop-on}
-use Rattle.score.proofs.EncodingFiles.{encode-decode}
+use Rattle.score.proofs.Fielded.{FitItems, no-item, fit-item, FitDurations, no-duration, fit-duration, Fielded, lawful-fielded}
+use Rattle.score.proofs.EncodingFiles.{decode-lawful, encode-decode}
 use Rattle.score.proofs.EncodingReads.{Entries, offsetsIn, durations-read, items-read, labels-read, messages-right, counts-read, offsets-read, contents-rest}
 
 -- ---- how many bytes are written
@@ -54,15 +53,11 @@ size-encode : (p : Piece) → length (encode p) ≡ sizeOf (countsIn p)
 unfolding encode countsIn
 size-encode p = simp (length-append, contents-size, durations-size, items-size, entries-size) (omega arith)
 
--- ---- where the bodies of a lawful piece's file stand
+-- ---- where the bodies of a piece's file stand, if its numbers fit their fields
 
-module _ (p : Piece) (l : Lawful p) where
+module _ (p : Piece) (l : Fielded p) where
   counted : Counted (countsIn p)
   counted = counts-held (countsIn p) (l .counts)
-
-  ranges : Ranges (p .items)
-  unfolding countsIn
-  ranges = table-ranges (countsIn p) (p .items) counted (counted .items) (l .items)
 
   counts-encode : countsOf (encode p) ≡ countsIn p
   unfolding encode
@@ -92,34 +87,42 @@ module _ (p : Piece) (l : Lawful p) where
   unfolding countsIn
   entries =
       let a : textAt (countsIn p) + 0 ≡ textAt (countsIn p) = omega arith in
-      record { right = l .labels; few = counted .text; whole = omega arith; entry = at-messages; text = rw a at-text }
+      record { few = counted .text; whole = omega arith; entry = at-messages; text = rw a at-text }
 
   items-encode : itemsFrom (encode p) (itemsAt (countsIn p)) (countsIn p .items) ≡ p .items
   unfolding countsIn
-  items-encode = items-read (encode p) (itemsAt (countsIn p)) (p .items) _ ranges at-items
+  items-encode = items-read (encode p) (itemsAt (countsIn p)) _ (l .items) at-items
 
   labels-encode : labelsAt (encode p) (countsIn p) (messagesAt (countsIn p)) (countsIn p .messages) ≡ p .labels
   unfolding countsIn
   labels-encode = labels-read (encode p) (countsIn p) (messagesAt (countsIn p)) 0 (p .labels) _ entries
 
-  messages-encode : messagesRight (encode p) (countsIn p) (messagesAt (countsIn p)) (countsIn p .messages) 0 ≡ fine
+  messages-encode : labelsRight (p .labels) ≡ true → messagesRight (encode p) (countsIn p) (messagesAt (countsIn p)) (countsIn p .messages) 0 ≡ fine
   unfolding countsIn
-  messages-encode = messages-right (encode p) (countsIn p) (messagesAt (countsIn p)) 0 (p .labels) _ entries
+  messages-encode right = messages-right (encode p) (countsIn p) (messagesAt (countsIn p)) 0 (p .labels) _ right entries
 
   durations-encode : durationsAt (encode p) eventsAt (countsIn p .events) ≡ p .durations
   unfolding countsIn
-  durations-encode = durations-read (encode p) eventsAt eventsAt (p .durations) _ (l .durations) at-events
+  durations-encode = durations-read (encode p) eventsAt _ (l .durations) at-events
+
+-- The file of a piece whose numbers fit their fields says this piece, lawful or not.
+pub decode-fielded : (p : Piece) → Fielded p → decode (encode p) ≡ p
+unfolding decode
+decode-fielded p l = rw (counts-encode p l, durations-encode p l, items-encode p l, labels-encode p l)
+
+-- Where that file is accepted, the piece is lawful.
+pub fielded-lawful : (p : Piece) → Fielded p → Accepted (encode p) → Lawful p
+fielded-lawful p l a = rw (decode-fielded p l) at (decode-lawful (encode p) a)
 
 -- ---- "So every score has one file"
 
 -- A lawful piece's file says this piece.
 pub decode-encode : (p : Piece) → Lawful p → decode (encode p) ≡ p
-unfolding decode
-decode-encode p l = rw (counts-encode p l, durations-encode p l, items-encode p l, labels-encode p l)
+decode-encode p l = decode-fielded p (lawful-fielded p l)
 
 bodies-encode : (p : Piece) → Lawful p → bodiesRight (encode p) (countsIn p) ≡ fine
 unfolding bodiesRight firstFault
-bodies-encode p l = rw (decode-encode p l, l .durations, l .items, messages-encode p l)
+bodies-encode p l = rw (decode-encode p l, l .durations, l .items, messages-encode p (lawful-fielded p l) (l .labels))
 
 offsets-right : (c : Counts) → offsetsRight (offsetsIn c) c (sizeOf c) ≡ fine
 unfolding offsetsRight firstFault need
@@ -129,10 +132,11 @@ encode-fine : (p : Piece) → Lawful p → checked (encode p) ≡ fine
 unfolding checked firstFault need
 encode-fine p l =
     let f = encode p in
+    let n = lawful-fielded p l in
     let long : leb contentsSize (length f) ≡ true = le-leb contentsSize (length f) (omega (arith, size-encode p)) in
-    let counts : countsRight (countsOf f) ≡ fine = rw (counts-encode p l) (l .counts) in
-    let offsets : offsetsRight (offsetsOf f) (countsOf f) (length f) ≡ fine = rw (offsets-encode p l, counts-encode p l, size-encode p) (offsets-right (countsIn p)) in
-    let bodies : bodiesRight f (countsOf f) ≡ fine = rw (counts-encode p l) (bodies-encode p l) in
+    let counts : countsRight (countsOf f) ≡ fine = rw (counts-encode p n) (l .counts) in
+    let offsets : offsetsRight (offsetsOf f) (countsOf f) (length f) ≡ fine = rw (offsets-encode p n, counts-encode p n, size-encode p) (offsets-right (countsIn p)) in
+    let bodies : bodiesRight f (countsOf f) ≡ fine = rw (counts-encode p n) (bodies-encode p l) in
     rw (long, counts, offsets, bodies)
 
 -- A lawful piece's file is accepted.
@@ -141,25 +145,19 @@ encode-accepted p l = record { fine = encode-fine p l }
 
 -- ---- a lawful piece's file has bytes only
 
-durations-bytes : (q : ℕ) (ds : List ℕ) → eventsRight q ds ≡ fine → Bytes (durationBytes ds)
-unfolding eventsRight durationBytes
-durations-bytes q [] e = empty
-durations-bytes q (d ∷ ds) e =
-    let small : d ≤ longest = between-high _ _ _ (first-holds _ (BadEvent q) _ e) in
-    bytes-append (le32-bytes d (omega arith)) (durations-bytes (q + eventSize) ds (first-head _ _ (first-rest _ _ e)))
+durations-bytes : {ds : List ℕ} → FitDurations ds → Bytes (durationBytes ds)
+unfolding durationBytes
+durations-bytes no-duration = empty
+durations-bytes (fit-duration {d = d} p r) = bytes-append (le32-bytes d p) (durations-bytes r)
 
-items-bytes : {is : List Item} → Ranges is → Bytes (itemBytes is)
+items-bytes : {is : List Item} → FitItems is → Bytes (itemBytes is)
 unfolding itemBytes
-items-bytes none = empty
-items-bytes (more {i = i} r rs) =
-    let kind : i .kind < 256 = omega (arith, r .kind) in
-    let synchrony : i .synchrony < 256 = omega (arith, r .synchrony) in
-    let error : i .error < 256 = omega (arith, r .error) in
-    let part : i .part < 256 = omega (arith, r .part) in
-    let delay = le32-bytes (i .delay .0) (omega (arith, r .delay)) in
-    let event = le16-bytes (i .event) (omega (arith, r .event)) in
-    let last = le16-bytes (i .last) (omega (arith, r .last)) in
-    byte kind (byte synchrony (byte error (byte part (bytes-append delay (bytes-append event (bytes-append last (items-bytes rs)))))))
+items-bytes no-item = empty
+items-bytes (fit-item {i = i} r rs) =
+    let delay = le32-bytes (i .delay .0) (r .delay) in
+    let event = le16-bytes (i .event) (r .event) in
+    let last = le16-bytes (i .last) (r .last) in
+    byte (r .kind) (byte (r .synchrony) (byte (r .error) (byte (r .part) (bytes-append delay (bytes-append event (bytes-append last (items-bytes rs)))))))
 
 entries-bytes : (from : ℕ) (ls : List (List ℕ)) → labelsRight ls ≡ true → from + length (textBytes ls) ≤ mostText → Bytes (entryBytes from ls)
 unfolding labelsRight entryBytes textBytes
@@ -199,11 +197,12 @@ contents-bytes c k =
 pub encode-bytes : (p : Piece) → Lawful p → (i : ℕ) → getD (encode p) i 0 < 256
 unfolding encode countsIn
 encode-bytes p l =
-    let k = counted p l in
+    let n = lawful-fielded p l in
+    let k = counted p n in
     bytes-at (
     bytes-append (contents-bytes (countsIn p) k)
-    (bytes-append (durations-bytes eventsAt (p .durations) (l .durations))
-    (bytes-append (items-bytes (ranges p l))
+    (bytes-append (durations-bytes (n .durations))
+    (bytes-append (items-bytes (n .items))
     (bytes-append (entries-bytes 0 (p .labels) (l .labels) (omega (arith, k .text))) (text-bytes (p .labels) (l .labels)))))
     )
 

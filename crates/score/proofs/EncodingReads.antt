@@ -10,39 +10,35 @@ use borrow.Author.Tests.{eq-eqb, le-leb}
 use Rattle.page.specs.declared.Item.{Item}
 use Rattle.base.specs.Tests.{every, between}
 use Rattle.base.specs.Checks.{fine, need, firstFault}
-use Rattle.base.proofs.TestLaws.{every-head, every-rest, between-high}
-use Rattle.base.proofs.CheckLaws.{first-head, first-rest, first-holds}
-use Rattle.contents.specs.declared.Fault.the-variants.{BadEvent}
+use Rattle.base.proofs.TestLaws.{every-head, every-rest}
 use Rattle.contents.specs.declared.Counts.{Counts}
 use Rattle.contents.specs.declared.Offsets.{Offsets}
-use Rattle.contents.specs.Limits.{contentsSize, eventSize, itemSize, messageSize, longest, longestLabel, mostText}
+use Rattle.contents.specs.Limits.{contentsSize, eventSize, itemSize, messageSize, longestLabel, mostText}
 use Rattle.contents.specs.Bytes.{byteAt, u16At, u32At, part}
 use Rattle.contents.specs.Contents.{offsetsOf, countsOf, eventsAt, itemsAt, messagesAt, textAt}
 use Rattle.contents.specs.Inner.{Counted}
 use Rattle.items.specs.Items.{itemAt, itemsFrom}
-use Rattle.items.specs.Ranged.{Ranged}
 use Rattle.messages.specs.Messages.{readable, labelAt, labelsAt, messageRight, messagesRight}
-use Rattle.score.specs.Events.{durationsAt, eventsRight}
+use Rattle.score.specs.Events.{durationsAt}
 use Rattle.score.specs.Encode.{le16, le32, contentsBytes, durationBytes, itemBytes, entryBytes, textBytes, labelsRight}
-use Rattle.items.proofs.Ranges.{Ranges, none, more}
+use Rattle.score.proofs.Fielded.{Fitting, FitItems, no-item, fit-item, FitDurations, no-duration, fit-duration}
 use Rattle.score.proofs.EncodingBytes.{drop-on, part-read, byte-read, byte-first, u16-on, u16-read, u32-on, u32-read}
 
 -- ---- the durations
 
-pub durations-read : (f : List ℕ) (at q : ℕ) (ds ys : List ℕ) → eventsRight q ds ≡ fine → drop at f ≡ durationBytes ds ++ ys → durationsAt f at (length ds) ≡ ds
-unfolding eventsRight durationBytes durationsAt
-durations-read f at q [] ys e d = refl
-durations-read f at q (x ∷ ds) ys e d =
-    let small : x ≤ longest = between-high _ _ _ (first-holds _ (BadEvent q) _ e) in
+pub durations-read : (f : List ℕ) (at : ℕ) {ds : List ℕ} (ys : List ℕ) → FitDurations ds → drop at f ≡ durationBytes ds ++ ys → durationsAt f at (length ds) ≡ ds
+unfolding durationBytes durationsAt
+durations-read f at ys no-duration d = refl
+durations-read f at ys (fit-duration {d = x} {ds = ds} p r) d =
     let d₁ : drop at f ≡ le32 x ++ (durationBytes ds ++ ys) = d ∙ append-assoc (le32 x) (durationBytes ds) ys in
     rw (
-      u32-read f at x _ (omega arith) d₁,
-      durations-read f (at + eventSize) (q + eventSize) ds ys (first-head _ _ (first-rest _ _ e)) (u32-on f at x _ d₁),
+      u32-read f at x _ p d₁,
+      durations-read f (at + eventSize) ys r (u32-on f at x _ d₁),
     )
 
 -- ---- the items
 
-module _ (f : List ℕ) (at : ℕ) (i : Item) (ys : List ℕ) (r : Ranged i)
+module _ (f : List ℕ) (at : ℕ) (i : Item) (ys : List ℕ) (r : Fitting i)
     (d : drop at f ≡ (i .kind ∷ i .synchrony ∷ i .error ∷ i .part ∷ []) ++ (le32 (i .delay .0) ++ (le16 (i .event) ++ (le16 (i .last) ++ ys)))) where
   from-delay : drop (at + 4) f ≡ le32 (i .delay .0) ++ (le16 (i .event) ++ (le16 (i .last) ++ ys))
   from-delay = drop-on f at (i .kind ∷ i .synchrony ∷ i .error ∷ i .part ∷ []) _ d
@@ -63,37 +59,28 @@ module _ (f : List ℕ) (at : ℕ) (i : Item) (ys : List ℕ) (r : Ranged i)
       let synchrony : byteAt f (at + 1) ≡ i .synchrony = byte-read f at 1 _ d in
       let error : byteAt f (at + 2) ≡ i .error = byte-read f at 2 _ d in
       let part : byteAt f (at + 3) ≡ i .part = byte-read f at 3 _ d in
-      let delay : u32At f (at + 4) ≡ i .delay .0 = u32-read f (at + 4) _ _ (omega (arith, r .delay)) from-delay in
-      let event : u16At f (at + 8) ≡ i .event = u16-read f (at + 8) _ _ (omega (arith, r .event)) from-event in
-      let last : u16At f (at + 10) ≡ i .last = u16-read f (at + 10) _ _ (omega (arith, r .last)) from-last in
+      let delay : u32At f (at + 4) ≡ i .delay .0 = u32-read f (at + 4) _ _ (r .delay) from-delay in
+      let event : u16At f (at + 8) ≡ i .event = u16-read f (at + 8) _ _ (r .event) from-event in
+      let last : u16At f (at + 10) ≡ i .last = u16-read f (at + 10) _ _ (r .last) from-last in
       rw (kind, synchrony, error, part, delay, event, last)
 
-pub items-read : (f : List ℕ) (at : ℕ) (is : List Item) (ys : List ℕ) → Ranges is → drop at f ≡ itemBytes is ++ ys → itemsFrom f at (length is) ≡ is
+pub items-read : (f : List ℕ) (at : ℕ) {is : List Item} (ys : List ℕ) → FitItems is → drop at f ≡ itemBytes is ++ ys → itemsFrom f at (length is) ≡ is
 unfolding itemBytes itemsFrom
-items-read f at [] ys none d = refl
-items-read f at (i ∷ is) ys (more r rs) d =
+items-read f at ys no-item d = refl
+items-read f at ys (fit-item {i = i} {is = is} r rs) d =
     let d₁ = simp append-assoc at d in
-    rw (item-read f at i (itemBytes is ++ ys) r d₁, items-read f (at + itemSize) is ys rs (from-next f at i (itemBytes is ++ ys) r d₁))
+    rw (item-read f at i (itemBytes is ++ ys) r d₁, items-read f (at + itemSize) ys rs (from-next f at i (itemBytes is ++ ys) r d₁))
 
 -- ---- the labels
 
 -- At the byte at stand the entries of these labels, then ys; at from in the text stand the labels, up to its end.
 pub record Entries (f : List ℕ) (c : Counts) (at from : ℕ) (ls : List (List ℕ)) (ys : List ℕ) : Type 0 where
-  pub right : labelsRight ls ≡ true
   pub few : c .text ≤ mostText
   pub whole : from + length (textBytes ls) ≡ c .text
   pub entry : drop at f ≡ entryBytes from ls ++ ys
   pub text : drop (textAt c + from) f ≡ textBytes ls
 
 module _ (f : List ℕ) (c : Counts) (at from : ℕ) (l : List ℕ) (ls : List (List ℕ)) (ys : List ℕ) (s : Entries f c at from (l ∷ ls) ys) where
-  label-size : between 1 longestLabel (length l) ≡ true
-  unfolding labelsRight
-  label-size = every-head _ _ (s .right)
-
-  label-readable : readable l ≡ true
-  unfolding labelsRight
-  label-readable = every-head _ _ (every-rest _ _ (s .right))
-
   text-whole : from + length l + length (textBytes ls) ≡ c .text
   unfolding textBytes
   text-whole = omega (arith, length-append l (textBytes ls), s .whole)
@@ -109,7 +96,7 @@ module _ (f : List ℕ) (c : Counts) (at from : ℕ) (l : List ℕ) (ls : List (
   start-read = u16-read f at from _ (omega (arith, text-whole, s .few)) at-start
 
   size-read : u16At f (at + 2) ≡ length l
-  size-read = u16-read f (at + 2) (length l) _ (omega (arith, between-high 1 longestLabel (length l) label-size)) at-size
+  size-read = u16-read f (at + 2) (length l) _ (omega (arith, text-whole, s .few)) at-size
 
   text-read : part f (textAt c + from) (length l) ≡ l
   unfolding textBytes
@@ -119,18 +106,26 @@ module _ (f : List ℕ) (c : Counts) (at from : ℕ) (l : List ℕ) (ls : List (
   unfolding labelAt
   label-read = rw (start-read, size-read) text-read
 
-  message-right : messageRight f c at from ≡ true
-  unfolding messageRight every
-  message-right =
-      rw (size-read, text-read, label-size, label-readable, eq-eqb (u16At f at) from start-read, le-leb (from + length l) (c .text) (omega (arith, text-whole)))
+  module _ (right : labelsRight (l ∷ ls) ≡ true) where
+    label-size : between 1 longestLabel (length l) ≡ true
+    unfolding labelsRight
+    label-size = every-head _ _ right
+
+    label-readable : readable l ≡ true
+    unfolding labelsRight
+    label-readable = every-head _ _ (every-rest _ _ right)
+
+    message-right : messageRight f c at from ≡ true
+    unfolding messageRight every
+    message-right =
+        rw (size-read, text-read, label-size, label-readable, eq-eqb (u16At f at) from start-read, le-leb (from + length l) (c .text) (omega (arith, text-whole)))
 
   next-entries : Entries f c (at + messageSize) (from + length l) ls ys
-  unfolding labelsRight textBytes
+  unfolding textBytes
   next-entries =
       let a : at + 2 + 2 ≡ at + messageSize = omega arith in
       let b : textAt c + from + length l ≡ textAt c + (from + length l) = omega arith in
       record {
-        right = every-head _ _ (every-rest _ _ (every-rest _ _ (s .right)));
         few = s .few;
         whole = text-whole;
         entry = rw a at (u16-on f (at + 2) _ _ at-size);
@@ -144,14 +139,14 @@ module _ (f : List ℕ) (c : Counts) where
   labels-read at from (l ∷ ls) ys s =
       rw (label-read f c at from l ls ys s, labels-read (at + messageSize) (from + length l) ls ys (next-entries f c at from l ls ys s))
 
-  pub messages-right : (at from : ℕ) (ls : List (List ℕ)) (ys : List ℕ) → Entries f c at from ls ys → messagesRight f c at (length ls) from ≡ fine
-  unfolding messagesRight firstFault need textBytes
-  messages-right at from [] ys s = rw (eq-eqb from (c .text) (omega (arith, s .whole)))
-  messages-right at from (l ∷ ls) ys s =
+  pub messages-right : (at from : ℕ) (ls : List (List ℕ)) (ys : List ℕ) → labelsRight ls ≡ true → Entries f c at from ls ys → messagesRight f c at (length ls) from ≡ fine
+  unfolding messagesRight labelsRight firstFault need textBytes
+  messages-right at from [] ys right s = rw (eq-eqb from (c .text) (omega (arith, s .whole)))
+  messages-right at from (l ∷ ls) ys right s =
       rw (
-        message-right f c at from l ls ys s,
+        message-right f c at from l ls ys s right,
         size-read f c at from l ls ys s,
-        messages-right (at + messageSize) (from + length l) ls ys (next-entries f c at from l ls ys s),
+        messages-right (at + messageSize) (from + length l) ls ys (every-head _ _ (every-rest _ _ (every-rest _ _ right))) (next-entries f c at from l ls ys s),
       )
 
 -- ---- the contents

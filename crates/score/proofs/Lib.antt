@@ -7,6 +7,7 @@ pub mod Readers
 pub mod LookUps
 pub mod EncodingBytes
 pub mod EncodingFiles
+pub mod Fielded
 pub mod EncodingReads
 pub mod EncodingPieces
 pub mod LongFile
