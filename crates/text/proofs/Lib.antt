@@ -5,11 +5,13 @@ pub mod LineSizes
 pub mod SizeLaws
 pub mod CountLaws
 pub mod ScriptLaws
+pub mod FieldLaws
 pub mod LineLaws
 pub mod TextLaws
 pub mod BodyLaws
 pub mod PageLaws
 pub mod RoundTrip
+pub mod GrantedLaws
 pub mod Examples
 pub mod SqueezedTokens
 pub mod SqueezedLines
