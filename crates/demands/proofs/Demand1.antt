@@ -11,8 +11,13 @@ use Rattle.base.specs.Checks.{Check, fine, refused}
 use Rattle.contents.specs.declared.Verdict.{Verdict}
 use Rattle.contents.specs.declared.Fault.{Fault}
 use Rattle.contents.specs.Replies.{verdictOf}
+use Rattle.score.specs.Piece.{decode}
 use Rattle.score.specs.File.{checked}
 use Rattle.score.specs.LookUp.{labelReply, labelSpan, granted, Part}
+use Rattle.text.specs.declared.Transcript.{Transcript}
+use Rattle.text.specs.Said.{said}
+use Rattle.text.specs.Written.{written}
+use Rattle.text.specs.Transcripts.{roomLeft, fileOf, readAnswer, writeAnswer}
 use Rattle.rules.specs.Terms.{Terms}
 use Rattle.session.specs.declared.Refusal.{Refusal}
 use Rattle.session.specs.Layout.{memorySize}
@@ -130,3 +135,21 @@ one-passing m room ms r s p q = sym p ∙ q
 -- `read_report`
 pub one-report : (m : List ℕ) (r s : Report) → r ≡ reported m → s ≡ reported m → r ≡ s
 one-report m r s p q = p ∙ sym q
+
+-- a reply, and the room that it leaves of what was made
+one-room : (w r s : Transcript) (made room m k : List ℕ) → r ≡ w → m ≡ roomLeft r made room → s ≡ w → k ≡ roomLeft s made room → (r ≡ s) × (m ≡ k)
+one-room w r s made room m k p a q b = (p ∙ sym q, a ∙ ap (λ (x : Transcript). roomLeft x made room) (p ∙ sym q) ∙ sym b)
+
+-- `read_text`: r and s are the replies, m and k the room as each leaves it.
+pub one-reading : (text room : List ℕ) (r s : Transcript) (m k : List ℕ)
+    → r ≡ readAnswer (length room) text → m ≡ roomLeft r (fileOf (said text)) room
+    → s ≡ readAnswer (length room) text → k ≡ roomLeft s (fileOf (said text)) room
+    → (r ≡ s) × (m ≡ k)
+one-reading text room r s m k p a q b = one-room _ r s _ room m k p a q b
+
+-- `write_text`
+pub one-writing : (f room : List ℕ) (r s : Transcript) (m k : List ℕ)
+    → r ≡ writeAnswer (length room) f → m ≡ roomLeft r (written (decode f)) room
+    → s ≡ writeAnswer (length room) f → k ≡ roomLeft s (written (decode f)) room
+    → (r ≡ s) × (m ≡ k)
+one-writing f room r s m k p a q b = one-room _ r s _ room m k p a q b

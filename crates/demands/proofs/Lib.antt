@@ -20,6 +20,8 @@ pub mod Sorts
 pub mod MemoryAndHistory
 pub mod Terms
 pub mod Demand1
+pub mod TextOutcomes
 pub mod Demand2
 pub mod Demand2Sent
 pub mod Demand3
+pub mod TextRuns
