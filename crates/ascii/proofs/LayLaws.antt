@@ -5,9 +5,10 @@ use mathlib.Core.List.{List, [], _∷_, _++_, append-assoc, append-nil}
 use Prim.Native.Nat.{ℕ, _+_, _-_, _<_, _≤_}
 use native.Mathlib.Numerals.{add-one}
 use native.Mathlib.Omega.{arith}
-use lib.ListN.{length, take, drop, getD, set, length-append, length-set}
+use lib.ListN.{length, take, drop, getD, set, replicate, length-append, length-set, replicate-append-replicate}
 use lib.Seq.{take-suc, take-add, take-length, take-set-le, take-suc-set, drop-cons, drop-set-lt, drop-drop, getD-set-same}
 use borrow.Author.Needs.{needs}
+use Rattle.ascii.specs.Words.{space}
 use Rattle.ascii.specs.Laying.{Laid}
 
 -- where two lists agree from a place on, they agree from any later one on
@@ -83,3 +84,21 @@ module _ (o s m : List ℕ) (a i : ℕ) (laid : Laid o a (take i s) m (a + i)) w
       rw (e, take-length s) at laid
 
 pub ruleset copying = (laid-none, laid-step, laid-whole, laid-byte, needs)
+
+-- ---- spaces
+
+pub spaces-none : (o : List ℕ) (a count : ℕ) → a + count ≤ length o → Laid o a (replicate 0 space) o (a + 0)
+spaces-none o a count p = let z : a + 0 ≡ a = omega arith in rw z (laid-nothing o a (omega arith))
+
+module _ (o : List ℕ) (a count : ℕ) (m : List ℕ) (i : ℕ) (laid : Laid o a (replicate i space) m (a + i)) where
+  pub spaces-step : i < count → a + count ≤ length o → Laid o a (replicate (i + 1) space) (set m (a + i) space) (a + (i + 1))
+  spaces-step p q =
+      let z : a + i + 1 ≡ a + (i + 1) = omega arith in
+      let e : length m ≡ length o = laid .size in
+      rw (← (replicate-append-replicate i 1 space), ← z)
+      (laid-join o m _ (replicate i space) (space ∷ []) a (a + i) (a + i + 1) laid (laid-byte m (a + i) space (omega arith)))
+
+  pub spaces-done : i ≤ count → count ≤ i → Laid o a (replicate count space) m (a + count)
+  spaces-done p q = let e : i ≡ count = omega arith in rw e at laid
+
+pub ruleset spacing = (spaces-none, spaces-step, spaces-done, needs)

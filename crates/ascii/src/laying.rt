@@ -2,10 +2,11 @@
 ghost use mathlib.Core.Path.{_≡_};
 ghost use mathlib.Core.List.{[], _∷_};
 ghost use Prim.Native.Nat.{_+_, _%_, _≤_, _<_};
-ghost use lib.ListN.{length};
-ghost use Rattle.ascii.specs.Words.{zeroDigit};
+ghost use lib.ListN.{length, replicate};
+ghost use Rattle.ascii.specs.Words.{space, zeroDigit};
 ghost use Rattle.ascii.specs.Decimals.{mostPlaces, digitsOf, decimal};
 ghost use Rattle.ascii.specs.Laying.{Laid};
+use crate::SPACE;
 
 // Puts `src` behind the first `at` bytes of `out`, which stay.
 pub fn put_bytes(out: &mut [u8], at: usize, src: &[u8]) -> usize
@@ -27,6 +28,19 @@ pub fn put_byte(out: &mut [u8], at: usize, b: u8) -> usize
 {
     out[at] = b;
     at + 1
+}
+
+// So many spaces.
+pub fn put_spaces(out: &mut [u8], at: usize, count: usize) -> usize
+    requires { ⌜ at + count ≤ length (now out) ⌝ }
+    ensures { λ r. ⌜ Laid (now (out .entry)) at (replicate count space) (now (out .exit)) r ⌝ }
+{
+    let mut i = 0;
+    while i < count {
+        out[at + i] = SPACE;
+        i += 1;
+    }
+    at + count
 }
 
 // The number's last digit.
@@ -95,7 +109,15 @@ fn put_places(out: &mut [u8], at: usize, places: usize, n: u64) -> usize
     at + places
 }
 
-// The number's digits.
+// The number's digits, where just they have room.
+pub fn put_decimal(out: &mut [u8], at: usize, n: u64) -> usize
+    requires { ⌜ at + length (decimal n) ≤ length (now out) ⌝ }
+    ensures { λ r. ⌜ Laid (now (out .entry)) at (decimal n) (now (out .exit)) r ⌝ }
+{
+    put_places(out, at, places(n), n)
+}
+
+// The number's digits, where any number's have room.
 pub fn put_number(out: &mut [u8], at: usize, n: u64) -> usize
     requires { ⌜ at + mostPlaces ≤ length (now out) ⌝ }
     ensures { λ r. ⌜ Laid (now (out .entry)) at (decimal n) (now (out .exit)) r × (r ≤ at + mostPlaces) ⌝ }

@@ -1,7 +1,9 @@
 // Bytes, decimals and fixed words on lent bytes: comparing a word, reading a number, laying bytes one behind the other.
 pub use laying::put_byte;
 pub use laying::put_bytes;
+pub use laying::put_decimal;
 pub use laying::put_number;
+pub use laying::put_spaces;
 pub use numbers::read_number;
 pub use words::begins;
 pub use words::bytes_before;

@@ -4,7 +4,7 @@ use mathlib.Core.Path.{_≡_, refl}
 use mathlib.Core.List.{_++_}
 use Rattle.ascii.specs.Text.{bytesOf}
 use Rattle.menu.specs.Table.{rowOf, commands}
-use Rattle.menu.specs.Help.{spaces, padded, commandLine, commandLines, helpHead, helpEnd, helpText}
+use Rattle.menu.specs.Help.{padded, commandLine, commandLines, helpHead, helpEnd, helpText}
 
 pub help-told : helpText
     ≡ bytesOf "usage: bin/poolmirror COMMAND ARGS\n\n"
@@ -17,5 +17,5 @@ pub help-told : helpText
     ++ (bytesOf "A name of a file may be - for standard input, or for standard output where one is written. Before a name that begins with a dash write --\n"
     ++ (bytesOf "Status: 0 done, 1 refused, 2 wrong usage, or something can't be read or written\n"
     ++ bytesOf "docs/POOLMIRROR.md says more, and docs/PLAY.md which commands play reads.\n"))))))))
-unfolding rowOf commands spaces padded commandLine commandLines helpHead helpEnd helpText
+unfolding rowOf commands padded commandLine commandLines helpHead helpEnd helpText
 help-told = refl

@@ -2,10 +2,9 @@
 -- Assumes nothing.
 use mathlib.Core.Path.{_≡_, refl, sym, ap, _∙_}
 use mathlib.Core.List.{List, [], _∷_, _++_, append-assoc, append-nil}
-use Prim.Native.Nat.{ℕ, zero, suc, _+_, _-_, _<_, _≤_}
-use native.Mathlib.Numerals.{add-one}
+use Prim.Native.Nat.{ℕ, _+_, _-_, _<_, _≤_}
 use native.Mathlib.Omega.{arith}
-use lib.ListN.{length, take, drop}
+use lib.ListN.{length, take, drop, replicate, length-replicate}
 use lib.Seq.{take-all, take-add}
 use borrow.Author.Needs.{needs}
 use Rattle.ascii.specs.Text.{bytesOf}
@@ -16,50 +15,20 @@ use Rattle.menu.specs.declared.Command.{Command}
 use Rattle.menu.specs.declared.table.Marks.{Marks}
 use Rattle.menu.specs.Table.{Row, rowOf, commands, count, usageWidth, helpWidth}
 use Rattle.menu.specs.Rows.{Holds}
-use Rattle.menu.specs.Help.{spaces, padded, commandLine, lineRoom, commandLines, helpHead, helpEnd, helpText}
+use Rattle.menu.specs.Help.{padded, commandLine, lineRoom, commandLines, helpHead, helpEnd, helpText}
 use Rattle.menu.proofs.TableSteps.{held-usage, held-help}
-
--- ---- spaces
-
-pub spaces-length : (n : ℕ) → length (spaces n) ≡ n
-unfolding spaces
-spaces-length zero = refl
-spaces-length (suc n) = ap suc (spaces-length n)
-
-one-space : (n : ℕ) → spaces (suc n) ≡ spaces n ++ (space ∷ [])
-unfolding spaces
-one-space zero = refl
-one-space (suc n) = ap (_∷_ space) (one-space n)
-
-pub no-spaces : (o : List ℕ) (at n : ℕ) → at + n ≤ length o → Laid o at (spaces 0) o at
-unfolding spaces
-no-spaces o at n p = laid-nothing o at (omega arith)
-
-pub spaces-on : (o m n : List ℕ) (at i a r : ℕ) → Laid o at (spaces i) m a → Laid m a (space ∷ []) n r → Laid o at (spaces (i + 1)) n r
-spaces-on o m n at i a r p q = rw (add-one, one-space i) (laid-join o m n _ _ at a r p q)
-
-pub spaces-done : (o m : List ℕ) (at i n a : ℕ) → i ≤ n → n ≤ i → Laid o at (spaces i) m a → Laid o at (spaces n) m a
-spaces-done o m at i n a p q l = let e : i ≡ n = omega arith in rw e at l
-
-pub space-fits : (o m : List ℕ) (at i n a : ℕ) → Laid o at (spaces i) m a → i < n → at + n ≤ length o → a + 1 ≤ length m
-space-fits o m at i n a l p q =
-    let s : a ≡ at + length (spaces i) = l .stop in
-    let z : length m ≡ length o = l .size in
-    omega (arith, spaces-length i)
-
-pub ruleset spacing = (no-spaces, spaces-on, spaces-done, space-fits, needs)
 
 -- ---- a command's line
 
-pub lay-padded : (o m n usage : List ℕ) (at a r : ℕ) → Laid o at usage m a → Laid m a (spaces (usageWidth - length usage)) n r → Laid o at (padded usage) n r
+pub lay-padded : (o m n usage : List ℕ) (at a r : ℕ) → Laid o at usage m a → Laid m a (replicate (usageWidth - length usage) space) n r → Laid o at (padded usage) n r
 unfolding padded
 lay-padded o m n usage at a r p q = laid-join o m n _ _ at a r p q
 
-pub padded-ends : (o m n usage : List ℕ) (at a r : ℕ) → length usage ≤ usageWidth → Laid o at usage m a → Laid m a (spaces (usageWidth - length usage)) n r → r ≤ at + usageWidth
+pub padded-ends : (o m n usage : List ℕ) (at a r : ℕ) → length usage ≤ usageWidth → Laid o at usage m a → Laid m a (replicate (usageWidth - length usage) space) n r → r ≤ at + usageWidth
 padded-ends o m n usage at a r l p q =
     let s : a ≡ at + length usage = p .stop in
-    let t : r ≡ a + length (spaces (usageWidth - length usage)) = q .stop in
-    omega (arith, spaces-length (usageWidth - length usage))
+    let t : r ≡ a + length (replicate (usageWidth - length usage) space) = q .stop in
+    omega (arith, length-replicate (usageWidth - length usage) space)
 
 pub ruleset padding = (lay-padded, padded-ends, needs)
 

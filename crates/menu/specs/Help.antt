@@ -1,20 +1,15 @@
 -- What `help` prints, made from the table.
-use Prim.Native.Nat.{ℕ, zero, suc, _-_}
+use Prim.Native.Nat.{ℕ, _-_}
 use mathlib.Core.List.{List, [], _∷_, _++_}
-use lib.ListN.{length}
+use lib.ListN.{length, replicate}
 use Rattle.ascii.specs.Text.{bytesOf}
 use Rattle.ascii.specs.Words.{space, newline}
 use Rattle.menu.specs.declared.Command.{Command}
 use Rattle.menu.specs.Table.{Row, rowOf, commands, usageWidth}
 
--- So many spaces.
-unfoldable pub spaces : ℕ → List ℕ
-spaces zero = []
-spaces (suc n) = space ∷ spaces n
-
 -- The usage, with spaces up to the column of the help.
 unfoldable pub padded : List ℕ → List ℕ
-padded usage = usage ++ spaces (usageWidth - length usage)
+padded usage = usage ++ replicate (usageWidth - length usage) space
 
 -- A command's line: two spaces, its usage and its help.
 unfoldable pub commandLine : Row → List ℕ

@@ -3,33 +3,19 @@ ghost use Prim.Native.Nat.{_+_, _≤_};
 ghost use lib.ListN.{length};
 ghost use Rattle.ascii.specs.Laying.{Laid};
 ghost use Rattle.menu.specs.Table.{rowOf, usageWidth};
-ghost use Rattle.menu.specs.Help.{spaces, padded, commandLine, lineRoom, helpHead, helpEnd, helpText, headRoom, endRoom, helpRoom};
+ghost use Rattle.menu.specs.Help.{padded, commandLine, lineRoom, helpHead, helpEnd, helpText, headRoom, endRoom, helpRoom};
 use crate::Command;
 use crate::table::COUNT;
 use crate::table::ROW_ROOM;
 use crate::table::command_at;
 use crate::table::put_row;
 use ascii::NEWLINE;
-use ascii::SPACE;
 use ascii::put_byte;
 use ascii::put_bytes;
+use ascii::put_spaces;
 
 // The width of the column of usages.
 const USAGE_WIDTH: usize = 30;
-
-// So many spaces.
-fn put_spaces(out: &mut [u8], at: usize, n: usize) -> usize
-    requires { ⌜ at + n ≤ length (now out) ⌝ }
-    ensures { λ r. ⌜ Laid (now (out .entry)) at (spaces n) (now (out .exit)) r ⌝ }
-{
-    let mut i = 0;
-    let mut end = at;
-    while i < n {
-        end = put_byte(out, end, SPACE);
-        i += 1;
-    }
-    end
-}
 
 // The usage, and spaces up to the column of the help.
 fn put_padded(out: &mut [u8], at: usize, usage: &[u8]) -> usize

@@ -1,0 +1,26 @@
+-- Each word is the one that was asked.
+-- Assumes nothing.
+use Rattle.writer.proofs.PhraseSteps.{words}
+use Rattle.writer.proofs.phrases.put_error.Statement.{statement}
+use Rattle.writer.proofs.phrases.put_error.Tie as tie
+
+pub put-error-spec : {M : Type 1} → statement M
+put-error-spec =
+    tie.close
+    (tie.spec
+    (λ c. search words)
+    (λ c κs. search words)
+    (λ c. search words)
+    (λ c. search words)
+    (λ c. search words)
+    (λ c κs. search words)
+    (λ c. search words)
+    (λ c. search words)
+    (λ c. search words)
+    (λ c κs. search words)
+    (λ c. search words)
+    (λ c. search words)
+    (λ c. search words)
+    (λ c κs. search words)
+    (λ c. search words)
+    (λ c. search words))

@@ -1,0 +1,26 @@
+-- Two blanks for each depth, from four.
+-- Assumes nothing.
+use borrow.Author.Needs.{needs}
+use Rattle.writer.proofs.PhraseSteps.{indent-room, indents}
+use Rattle.writer.proofs.phrases.put_indent.Statement.{statement}
+use Rattle.writer.proofs.phrases.put_indent.Tie as tie
+
+mul-put-spaces : tie.Need-mul-put-spaces
+mul-put-spaces c =
+    let start = c .before .before in
+    let w = indent-room (start .args .out .now) (start .args .at) (start .args .depth) (start .pre) in search needs
+
+add-put-spaces : tie.Need-add-put-spaces
+add-put-spaces c =
+    let start = c .before .before in
+    let w = indent-room (start .args .out .now) (start .args .at) (start .args .depth) (start .pre) in search needs
+
+pub put-indent-spec : {M : Type 1} → statement M
+put-indent-spec =
+    tie.close
+    (tie.spec
+    mul-put-spaces
+    add-put-spaces
+    (λ c κs. search indents)
+    (λ c. search indents)
+    (λ c. search indents))
