@@ -55,7 +55,7 @@ unfolding itemLines
 lines-none zero = refl
 lines-none (suc n) = refl
 
-lines-action : (n : ℕ) (i : Item) (is : List Item) → i .kind ≡ 0 → itemLines (suc n) (i ∷ is) ≡ send (i .delay .0) (i .last) ∷ itemLines n is
+pub lines-action : (n : ℕ) (i : Item) (is : List Item) → i .kind ≡ 0 → itemLines (suc n) (i ∷ is) ≡ send (i .delay .0) (i .last) ∷ itemLines n is
 unfolding itemLines pick
 lines-action n i is e = rw (eq-eqb (i .kind) 0 e)
 

@@ -1,12 +1,11 @@
 -- The least denominator by Euclid's steps: the pair changes, and what serves both its numbers stays.
 -- No step needs more than that a number is a multiple of the next one and a rest. Assumes nothing.
-use mathlib.Core.Path.{_≡_, refl, sym, ap, _∙_}
+use mathlib.Core.Path.{_≡_, sym, ap, _∙_}
 use mathlib.Core.List.{List, [], _∷_, _++_, append-nil}
 use Prim.Native.Nat.{ℕ, zero, suc, _+_, _*_, _/_, _%_, _<_, _≤_}
-use native.Mathlib.Nat.{zero-mul, mul-assoc, mul-comm, add-mul, mul-pos, mul-mod-left, mul-mod-right, mod-lt, mod-self, zero-mod, div-add-mod', div-le-self, le-of-mul-le-mul-right, mul-le-mul}
+use native.Mathlib.Nat.{zero-mul, mul-assoc, mul-comm, add-mul, mul-pos, mul-mod-left, mul-mod-right, mod-lt, mod-self, zero-mod, div-add-mod', le-of-mul-le-mul-right, mul-le-mul}
 use native.Mathlib.Omega.{arith}
 use lib.ListN.{length, length-append}
-use lib.Dec.{eqb}
 use borrow.Author.Tests.{eq-eqb, ne-eqb}
 use borrow.Author.Needs.{needs}
 use Rattle.base.specs.Tests.{pick}
@@ -58,14 +57,14 @@ module _ (g a b : ℕ) (pair : Pair g a b) (more : 0 < b) where
       record {
         serves = λ d p q. pair .serves d (rw (parted a b d) (whole-sum _ _ _ (whole-times (a / b) (b * d) grainsOfABeat p) q)) p;
         served = λ d p.
-          let both = pair .served d p in
-          let t = whole-times (a / b) (b * d) grainsOfABeat (both .1) in
-          let s = parted a b d in
-          (both .1, omega (arith, both .0));
+            let both = pair .served d p in
+            let t = whole-times (a / b) (b * d) grainsOfABeat (both .1) in
+            let s = parted a b d in
+            (both .1, omega (arith, both .0));
         divides = λ k p q.
-          let z : a ≡ a / b * b + a % b = sym (div-add-mod' a b) in
-          let w : (a / b * b + a % b) % k ≡ 0 = whole-sum _ _ k (whole-times (a / b) b k p) q in
-          pair .divides k (rw (← z) at w) p;
+            let z : a ≡ a / b * b + a % b = sym (div-add-mod' a b) in
+            let w : (a / b * b + a % b) % k ≡ 0 = whole-sum _ _ k (whole-times (a / b) b k p) q in
+            pair .divides k (rw (← z) at w) p;
         some = omega arith;
       }
 

@@ -9,5 +9,5 @@ pub mod NestLaws
 pub mod NestSteps
 pub mod PageLaws
 pub mod PageSteps
-pub mod Owing
 pub mod TextSteps
+pub mod OneOutcome

@@ -3,22 +3,21 @@
 use mathlib.Core.Path.{_≡_, refl, sym, ap, _∙_}
 use mathlib.Core.Bool.{Bool, true, false}
 use mathlib.Core.List.{List, [], _∷_, _++_, append-assoc, append-nil}
-use Prim.Native.Nat.{ℕ, zero, suc, _+_, _-_, _*_, _<_, _≤_}
+use Prim.Native.Nat.{ℕ, zero, suc, _+_, _-_, _≤_}
 use native.Mathlib.Omega.{arith}
 use lib.ListN.{length, take, drop, getD, length-take, length-drop}
 use lib.Dec.{eqb}
-use borrow.Author.Tests.{eq-eqb, ne-eqb, eqb-true, eqb-false}
+use borrow.Author.Tests.{ne-eqb, eqb-true, eqb-false}
 use Rattle.base.specs.Tests.{pick}
 use Rattle.ascii.specs.Words.{newline}
 use Rattle.ascii.specs.Text.{bytesOf}
 use Rattle.ascii.specs.Decimals.{decimal}
-use Rattle.tokens.specs.Quoted.{quoted}
 use Rattle.page.specs.declared.Item.{Item}
-use Rattle.items.specs.Items.{isAction, withinOf}
-use Rattle.text.specs.Grammar.{Line, heading, message, event, part, send, group, close}
+use Rattle.text.specs.Grammar.{Line, message, event, part, send, group, close}
 use Rattle.text.specs.Beats.{beatsText}
 use Rattle.text.specs.Written.{synchronyWord, errorWord, Spot, indent, remark, lineText, behindLine, textOf, itemLines}
-use Rattle.writer.specs.Phrases.{joined, numbered, delayed, noted, messageLine, eventLine, partText, sendLine, groupWords, groupLine, closeLine}
+use Rattle.text.proofs.BodyLaws.{lines-action}
+use Rattle.writer.specs.Phrases.{joined, messageLine, eventLine, partText, sendLine, groupLine, closeLine}
 use Rattle.writer.specs.Layouts.{within}
 
 -- ---- lines by their pieces
@@ -75,10 +74,6 @@ lines-any (suc n) (suc m) (i ∷ is) p q =
       lines-any n m (take (i .last) is) (omega arith) (omega arith),
       lines-any n m (drop (i .last) is) (omega arith) (omega arith),
     )
-
-pub lines-action : (n : ℕ) (i : Item) (is : List Item) → i .kind ≡ 0 → itemLines (suc n) (i ∷ is) ≡ send (i .delay .0) (i .last) ∷ itemLines n is
-unfolding itemLines pick
-lines-action n i is e = rw (eq-eqb (i .kind) 0 e)
 
 pub lines-group : (n : ℕ) (i : Item) (is : List Item) → (i .kind ≡ 0 → ⊥)
     → itemLines (suc n) (i ∷ is) ≡ group (i .delay .0) (i .synchrony) (i .error) ∷ (itemLines n (take (i .last) is) ++ (close ∷ itemLines n (drop (i .last) is)))

@@ -1,7 +1,7 @@
 -- The text of the items from a place on, one item at a time, and that the items of an accepted file nest.
 -- Assumes nothing.
-use mathlib.Core.Path.{_≡_, refl, sym, ap, _∙_}
-use mathlib.Core.List.{List, [], _∷_, _++_, append-nil}
+use mathlib.Core.Path.{_≡_, sym, ap, _∙_}
+use mathlib.Core.List.{List, [], _∷_, _++_}
 use Prim.Native.Nat.{ℕ, zero, suc, _+_, _-_, _<_, _≤_}
 use native.Mathlib.Omega.{arith}
 use lib.ListN.{length, take, drop, getD, length-take, length-drop, length-append, drop-of-length-le}
@@ -17,9 +17,10 @@ use Rattle.score.specs.Piece.{Piece, decode}
 use Rattle.score.specs.File.{Accepted}
 use Rattle.score.proofs.Accepted.{accepted-walked}
 use Rattle.text.specs.Written.{behindLine, textOf, itemLines}
+use Rattle.text.proofs.BodyLaws.{lines-action}
 use Rattle.writer.specs.Phrases.{sendLine, groupLine, closeLine}
 use Rattle.writer.specs.Layouts.{within, itemsText, Nests, no-items, with-item}
-use Rattle.writer.proofs.LineLaws.{lines-any, lines-action, send-line, group-alone, items-then}
+use Rattle.writer.proofs.LineLaws.{lines-any, send-line, group-alone, items-then}
 
 -- ---- lists
 
@@ -101,7 +102,7 @@ module _ (all : List Item) (i left : ℕ) (more : 0 < left) (fits : i + left ≤
   inner =
       let z : left ≡ suc (left - 1) = omega arith in
       let e : take left (drop i all) ≡ item ∷ take (left - 1) (drop (i + 1) all) =
-        ap (λ (n : ℕ). take n (drop i all)) z ∙ rw same (next-item all i (left - 1) (omega arith)) in
+      ap (λ (n : ℕ). take n (drop i all)) z ∙ rw same (next-item all i (left - 1) (omega arith)) in
       nests-inner (rw e at nests)
 
   pub nests-action : item .kind ≡ 0 → Nests (take (left - 1) (drop (i + 1) all))
@@ -152,7 +153,7 @@ module _ (all : List Item) (i : ℕ) (below : i < length all) (item : Item) (sam
       let w = withinOf item in
       let z : 1 + w ≡ suc w = omega arith in
       let e : take (1 + w) (drop i all) ≡ item ∷ take w (drop (i + 1) all) =
-        ap (λ (n : ℕ). take n (drop i all)) z ∙ next-item all i w (omega (arith, top-fits)) ∙ ap (λ (x : Item). x ∷ take w (drop (i + 1) all)) (sym same) in
+      ap (λ (n : ℕ). take n (drop i all)) z ∙ next-item all i w (omega (arith, top-fits)) ∙ ap (λ (x : Item). x ∷ take w (drop (i + 1) all)) (sym same) in
       let t = length-take-le w (drop (i + 1) all) (top-inner .fits) in
       let b : Nests (take w (take w (drop (i + 1) all))) = rw (take-take w w (drop (i + 1) all) (omega arith)) (top-inner .body) in
       let d : drop w (take w (drop (i + 1) all)) ≡ [] = drop-of-length-le (take w (drop (i + 1) all)) {i = w} (omega arith) in

@@ -13,8 +13,8 @@ use Rattle.page.specs.declared.Item.{Item}
 use Rattle.items.specs.Items.{withinOf}
 use Rattle.items.specs.Ranged.{blank}
 use Rattle.score.specs.Piece.{Piece}
-use Rattle.text.specs.Grammar.{Line, heading, message, event, part}
-use Rattle.text.specs.Written.{Spot, lineText, behindLine, textOf, itemLines, topLines, partLine, laterEvents, pageLines, messageLines, lines, outset, written}
+use Rattle.text.specs.Grammar.{Line, message, event, part}
+use Rattle.text.specs.Written.{Spot, lineText, behindLine, textOf, topLines, partLine, laterEvents, pageLines, messageLines, lines, written}
 use Rattle.writer.specs.Phrases.{joined, headingLine, messageLine, eventLine, partText}
 use Rattle.writer.specs.Layouts.{within, behind, itemsText, messagesText, pageText, names, changeText, topText}
 use Rattle.writer.proofs.LineLaws.{message-line, event-line, part-line, items-then}

@@ -4,12 +4,11 @@ use mathlib.Core.Path.{_≡_, refl, sym, ap, _∙_}
 use mathlib.Core.List.{List, [], _++_, append-nil}
 use Prim.Native.Nat.{ℕ, _+_, _<_, _≤_}
 use native.Mathlib.Omega.{arith}
-use lib.ListN.{length, take, drop, length-append, take-append-drop}
+use lib.ListN.{length, take, drop, take-append-drop}
 use lib.Seq.{length-take-le}
 use borrow.Author.Tests.{le-leb, lt-leb}
 use borrow.Author.Needs.{needs}
 use Rattle.base.specs.Tests.{pick}
-use Rattle.base.specs.Checks.{Check, fine, refused}
 use Rattle.ascii.specs.Laying.{Laid}
 use Rattle.contents.specs.declared.Fault.{Fault}
 use Rattle.contents.specs.declared.Verdict.{Verdict}
@@ -24,11 +23,11 @@ use Rattle.text.specs.declared.Transcript.{Transcript}
 use Rattle.text.specs.declared.Transcript.the-variants.{Made, NoRoom, BadFile}
 use Rattle.text.specs.Written.{written}
 use Rattle.text.specs.Transcripts.{textRoom, fitted, allowed, roomLeft, writeAnswer}
+use Rattle.text.proofs.SizeLaws.{text-short}
 use Rattle.writer.specs.Phrases.{headingLine}
 use Rattle.writer.specs.Layouts.{messagesText, pageText}
 use Rattle.writer.proofs.PageLaws.{written-is}
 use Rattle.writer.proofs.Owed.{Owed, owed-start, owed-done, owed-room, owed-laid}
-use Rattle.writer.proofs.Owing.{text-short}
 
 -- ---- heading, message list and page
 

@@ -1,7 +1,7 @@
 -- The text is made in bytes of the function's own, and what is told of their front is told of it.
 -- Assumes nothing.
 use borrow.Author.Needs.{needs}
-use Rattle.writer.proofs.TextSteps.{text-fits, front-fitted, front-left, fronts}
+use Rattle.writer.proofs.TextSteps.{text-fits, fronts}
 use Rattle.writer.proofs.write_accepted.Statement.{statement}
 use Rattle.writer.proofs.write_accepted.Tie as tie
 
