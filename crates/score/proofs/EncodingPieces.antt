@@ -30,17 +30,17 @@ use Rattle.score.proofs.EncodingReads.{Entries, offsetsIn, durations-re
 
 -- ---- how many bytes are written
 
-durations-size : (ds : List ℕ) → length (durationBytes ds) ≡ eventSize * length ds
+pub durations-size : (ds : List ℕ) → length (durationBytes ds) ≡ eventSize * length ds
 unfolding durationBytes
 durations-size [] = refl
 durations-size (d ∷ ds) = omega (arith, length-append (le32 d) (durationBytes ds), le32-length d, durations-size ds)
 
-items-size : (is : List Item) → length (itemBytes is) ≡ itemSize * length is
+pub items-size : (is : List Item) → length (itemBytes is) ≡ itemSize * length is
 unfolding itemBytes le32 le16
 items-size [] = refl
 items-size (i ∷ is) = omega (arith, items-size is)
 
-entries-size : (from : ℕ) (ls : List (List ℕ)) → length (entryBytes from ls) ≡ messageSize * length ls
+pub entries-size : (from : ℕ) (ls : List (List ℕ)) → length (entryBytes from ls) ≡ messageSize * length ls
 unfolding entryBytes le16
 entries-size from [] = refl
 entries-size from (l ∷ ls) = omega (arith, entries-size (from + length l) ls)
@@ -49,7 +49,7 @@ contents-size : (c : Counts) → length (contentsBytes c) ≡ contentsSize
 unfolding contentsBytes le32 le16
 contents-size c = refl
 
-size-encode : (p : Piece) → length (encode p) ≡ sizeOf (countsIn p)
+pub size-encode : (p : Piece) → length (encode p) ≡ sizeOf (countsIn p)
 unfolding encode countsIn
 size-encode p = simp (length-append, contents-size, durations-size, items-size, entries-size) (omega arith)
 

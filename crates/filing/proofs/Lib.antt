@@ -1,0 +1,3 @@
+-- Laws of the bytes of a file, for the proofs of several functions and for the crates above.
+pub mod LayingSteps
+pub mod LastLaws

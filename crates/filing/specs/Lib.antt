@@ -1,0 +1,3 @@
+-- The bytes of a file as they are laid one behind the other, and the last field of an item among them.
+pub mod Pieces
+pub mod Lasts
