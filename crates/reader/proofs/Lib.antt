@@ -1,0 +1,5 @@
+-- Laws of the second pass over a text.
+pub mod RunLaws
+pub mod TurnSteps
+pub mod ListSteps
+pub mod PageSteps

@@ -1,0 +1,77 @@
+-- What the second pass asks, and what it leaves: the bodies of the file of a text's lines.
+use Prim.Native.Nat.{ℕ, _+_, _*_, _<_, _≤_}
+use mathlib.Core.Path.{_≡_}
+use mathlib.Core.List.{List}
+use lib.ListN.{length, take, drop}
+use Rattle.tokens.specs.Beats.{field}
+use Rattle.contents.specs.declared.Counts.{Counts}
+use Rattle.contents.specs.Limits.{eventSize, itemSize, messageSize, mostEvents, mostItems, mostMessages, mostText}
+use Rattle.contents.specs.Inner.{Counted}
+use Rattle.score.specs.Encode.{durationBytes, itemBytes, entryBytes, textBytes, countsIn}
+use Rattle.filing.specs.Pieces.{filed}
+use Rattle.script.specs.Balanced.{Balanced}
+use Rattle.text.specs.declared.Stage.the-variants.{Start, Listing}
+use Rattle.text.specs.Grammar.{Script, script}
+use Rattle.text.specs.Said.{labelsOf, durationsOf, itemsOf, pieceOf}
+use Rattle.reader.specs.Turns.{Turnable}
+
+-- The text has no fault, and no more of anything than a file may have.
+pub record Tellable (t : List ℕ) : Type 0 where
+  pub balanced : Balanced Start (script Start t)
+  pub counted : Counted (countsIn (pieceOf (script Start t)))
+
+-- ---- the list
+
+-- Behind the word `messages`.
+pub record Headed (t : List ℕ) (r : ℕ) : Type 0 where
+  pub left : Turnable t r (Listing 0)
+  pub labels : labelsOf (script (Listing 0) (drop r t)) ≡ labelsOf (script Start t)
+  pub durations : durationsOf (script (Listing 0) (drop r t)) ≡ durationsOf (script Start t)
+  pub items : itemsOf 0 0 0 (script (Listing 0) (drop r t)) ≡ itemsOf 0 0 0 (script Start t)
+
+-- Behind so many messages the events and items of the text are left.
+pub record Begun (t : List ℕ) (at n : ℕ) : Type 0 where
+  pub left : Turnable t at (Listing n)
+  pub durations : durationsOf (script (Listing n) (drop at t)) ≡ durationsOf (script Start t)
+  pub items : itemsOf 0 0 0 (script (Listing n) (drop at t)) ≡ itemsOf 0 0 0 (script Start t)
+
+pub record ListRoom (e l : List ℕ) : Type 0 where
+  pub entries : messageSize * mostMessages ≤ length e
+  pub labels : mostText ≤ length l
+
+-- The entries and the labels stand at the front of their bytes, and the page begins here.
+pub record Listed (t e l : List ℕ) (r : ℕ) : Type 0 where
+  pub entries : take (messageSize * length (labelsOf (script Start t))) e ≡ entryBytes 0 (labelsOf (script Start t))
+  pub labels : take (length (textBytes (labelsOf (script Start t)))) l ≡ textBytes (labelsOf (script Start t))
+  pub begun : Begun t r (length (labelsOf (script Start t)))
+
+-- ---- the page
+
+pub record PageRoom (d m : List ℕ) : Type 0 where
+  pub durations : eventSize * mostEvents ≤ length d
+  pub items : itemSize * mostItems ≤ length m
+
+-- What an item asks: room behind the first n, and numbers that fit their fields.
+pub record RowRoom (m : List ℕ) (n e p d : ℕ) : Type 0 where
+  pub room : itemSize * n + itemSize ≤ length m
+  pub event : e ≤ mostEvents
+  pub part : p < 256
+  pub delay : d < field
+
+-- The durations and the items stand at the front of their bytes.
+pub record Paged (t d m : List ℕ) : Type 0 where
+  pub durations : take (eventSize * length (durationsOf (script Start t))) d ≡ durationBytes (durationsOf (script Start t))
+  pub items : take (itemSize * length (itemsOf 0 0 0 (script Start t))) m ≡ itemBytes (itemsOf 0 0 0 (script Start t))
+
+-- ---- the file
+
+-- The counts are right, and there is room for each body and for the file.
+pub record Bodies (c : Counts) (durations items entries labels out : List ℕ) : Type 0 where
+  pub counted : Counted c
+  pub page : PageRoom durations items
+  pub list : ListRoom entries labels
+  pub room : 52256 ≤ length out
+
+-- The file of the bodies at the fronts of these bytes.
+unfoldable pub fileIn : Counts → (durations items entries labels : List ℕ) → List ℕ
+fileIn c d m e l = filed c (take (eventSize * c .events) d) (take (itemSize * c .items) m) (take (messageSize * c .messages) e) (take (c .text) l)
