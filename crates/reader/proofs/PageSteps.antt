@@ -10,6 +10,7 @@ use native.Mathlib.Omega.{arith}
 use lib.ListN.{length, take, drop, length-append}
 use borrow.Author.Needs.{needs}
 use Rattle.ascii.specs.Laying.{Laid}
+use Rattle.tokens.specs.Tokens.{label, bytesIn}
 use Rattle.tokens.specs.Beats.{field}
 use Rattle.page.specs.declared.Item.{Item}
 use Rattle.contents.specs.Limits.{eventSize, itemSize, mostEvents, mostItems}
@@ -140,6 +141,142 @@ pub record Going (t d m : List ℕ) (s : Script) (depth e p n o : ℕ) : Type 0 
   pub event-count : e + length (durationsOf s) ≡ length (durationsOf (script Start t))
   pub item-count : n + length (itemsOf e p depth s) ≡ length (itemsOf 0 0 0 (script Start t))
 
+module _ {t d m : List ℕ} {s : Script} {depth e p n o : ℕ} where
+  going-heading : Going t d m (more heading s) depth e p n o → Going t d m s depth e p n o
+  unfolding run durationsOf itemsOf
+  going-heading g =
+      record {
+        w = g .w;
+        laid = g .laid;
+        count = g .count;
+        rest = g .rest;
+        chain = g .chain;
+        events = g .events;
+        event-count = g .event-count;
+        item-count = g .item-count;
+      }
+
+  going-message : {l : List ℕ} → Going t d m (more (message l) s) depth e p n o → Going t d m s depth e p n o
+  unfolding run durationsOf itemsOf
+  going-message g =
+      record {
+        w = g .w;
+        laid = g .laid;
+        count = g .count;
+        rest = g .rest;
+        chain = g .chain;
+        events = g .events;
+        event-count = g .event-count;
+        item-count = g .item-count;
+      }
+
+  going-part : {q : ℕ} → Going t d m (more (part q) s) depth e p n o → Going t d m s depth e q n o
+  unfolding run durationsOf itemsOf
+  going-part g =
+      record {
+        w = g .w;
+        laid = g .laid;
+        count = g .count;
+        rest = g .rest;
+        chain = g .chain;
+        events = g .events;
+        event-count = g .event-count;
+        item-count = g .item-count;
+      }
+
+  event-owed : {x : ℕ} → Going t d m (more (event x) s) depth e p n o → e + suc (length (durationsOf s)) ≡ length (durationsOf (script Start t))
+  unfolding durationsOf
+  event-owed g = g .event-count
+
+  going-event : {x : ℕ} (d′ : List ℕ) (r : ℕ) → Going t d m (more (event x) s) depth e p n o → Laid d (eventSize * e) (le32 x) d′ r → r ≡ eventSize * e + eventSize
+      → Going t d′ m s depth (e + 1) p n o
+  unfolding run durationsOf durationBytes itemsOf
+  going-event {x} d′ r g laid q =
+      let z : eventSize * (e + 1) ≡ r = omega arith in
+      let o : take r d′ ++ durationBytes (durationsOf s) ≡ durationBytes (durationsOf (script Start t)) = owed-laid d d′ (le32 x) _ _ _ r (g .events) laid in
+      record {
+        w = g .w;
+        laid = g .laid;
+        count = g .count;
+        rest = rw (add-one e) (g .rest);
+        chain = g .chain;
+        events = rw z o;
+        event-count = omega (arith, event-owed g);
+        item-count = rw (add-one e) (g .item-count);
+      }
+
+  send-owed : {x k : ℕ} → Going t d m (more (send x k) s) depth e p n o → n + suc (length (itemsOf e p depth s)) ≡ length (itemsOf 0 0 0 (script Start t))
+  unfolding itemsOf
+  send-owed g = g .item-count
+
+  going-send : {x k : ℕ} (m′ : List ℕ) (r : ℕ) → Going t d m (more (send x k) s) depth e p n o → Laid m (itemSize * n) (itemBytes (sendItem p (eventOf o e) x k ∷ [])) m′ r
+      → r ≡ itemSize * n + itemSize → Going t d m′ s depth e p (n + 1) o
+  unfolding run durationsOf
+  going-send {x} {k} m′ r g laid q =
+      let y = sendItem p (eventOf o e) x k in
+      record {
+        w = g .w ++ (y ∷ []);
+        laid = item-added (g .w) y m m′ n r (g .count) (g .laid) laid q;
+        count = omega (arith, length-append (g .w) (y ∷ []), g .count);
+        rest = g .rest;
+        chain = chain-append (y ∷ []) (g .chain);
+        events = g .events;
+        event-count = g .event-count;
+        item-count = omega (arith, send-owed g);
+      }
+
+  group-owed : {x y v : ℕ} → Going t d m (more (group x y v) s) depth e p n o → n + suc (length (itemsOf e p (suc depth) s)) ≡ length (itemsOf 0 0 0 (script Start t))
+  unfolding itemsOf
+  group-owed g = g .item-count
+
+  going-group : {x y v : ℕ} (m′ : List ℕ) (r : ℕ) → Going t d m (more (group x y v) s) depth e p n o
+      → Laid m (itemSize * n) (itemBytes (groupItem p (eventOf o e) x y v o ∷ [])) m′ r → r ≡ itemSize * n + itemSize → Going t d m′ s (suc depth) e p (n + 1) (n + 1)
+  unfolding run durationsOf
+  going-group {x} {y} {v} m′ r g laid q =
+      let z = groupItem p (eventOf o e) x y v o in
+      let f : run e p (suc (length (g .w))) (g .w ++ (z ∷ [])) s ≡ itemsOf 0 0 0 (script Start t) = g .rest in
+      let c : Chain (g .w ++ (z ∷ [])) (suc depth) (suc (length (g .w))) = chain-open z refl (g .chain) in
+      let a : suc (length (g .w)) ≡ n + 1 = omega (arith, g .count) in
+      record {
+        w = g .w ++ (z ∷ []);
+        laid = item-added (g .w) z m m′ n r (g .count) (g .laid) laid q;
+        count = omega (arith, length-append (g .w) (z ∷ []), g .count);
+        rest = rw a at f;
+        chain = rw a at c;
+        events = g .events;
+        event-count = g .event-count;
+        item-count = omega (arith, group-owed g);
+      }
+
+  -- the innermost open group, where one is closed
+  closing : Going t d m (more close s) depth e p n o → 1 ≤ depth → (1 ≤ o) × (o ≤ n)
+  closing g q = let c = chain-close (g .chain) q in (c .some, omega (arith, c .place, g .count))
+
+  going-close : (m′ : List ℕ) (r : ℕ) → Going t d m (more close s) depth e p n o → 1 ≤ depth → itemSize * n ≤ length m → Replaced m (o - 1) (n - o) m′ r
+      → Going t d m′ s (depth - 1) e p n r × (r ≤ n)
+  unfolding run durationsOf itemsOf
+  going-close m′ r g q room put =
+      let c = chain-close (g .chain) q in
+      let l : itemSize * length (g .w) ≤ length m = rw (g .count) room in
+      let held : take (itemSize * length (g .w)) m ≡ itemBytes (g .w) = rw (g .count) (g .laid) in
+      let st : r ≡ lastOf (g .w) (o - 1) = last-stood (g .w) (o - 1) (c .place) m m′ (n - o) r put l held in
+      let ne : take (itemSize * length (g .w)) m′ ≡ itemBytes (setLast (g .w) (o - 1) (n - o)) = last-replaced (g .w) (o - 1) (c .place) m m′ (n - o) r put l held in
+      let a : run e p (lastOf (g .w) (less o)) (setLast (g .w) (less o) (length (g .w) - o)) s ≡ itemsOf 0 0 0 (script Start t) = g .rest in
+      let b : run e p (lastOf (g .w) (o - 1)) (setLast (g .w) (o - 1) (n - o)) s ≡ itemsOf 0 0 0 (script Start t) = rw (c .is, g .count) at a in
+      let h : Chain (setLast (g .w) (o - 1) (n - o)) (depth - 1) (lastOf (g .w) (o - 1)) = chain-set (o - 1) (n - o) (c .below) (c .around) in (
+        record {
+          w = setLast (g .w) (o - 1) (n - o);
+          laid = rw (g .count) at ne;
+          count = set-length (g .w) (o - 1) (n - o) ∙ g .count;
+          rest = rw st b;
+          chain = rw st h;
+          events = g .events;
+          event-count = g .event-count;
+          item-count = g .item-count;
+        },
+        rw st (omega (arith, c .below, c .place, g .count)),
+      )
+
 pub record FillingPage (t d₀ m₀ d m : List ℕ) (at : ℕ) (stage : Stage) (e p n o : ℕ) : Type 0 where
   pub left : Turnable t at stage
   pub going : Going t d m (script stage (drop at t)) (openIn stage) e p n o
@@ -205,10 +342,10 @@ module _ (t d₀ m₀ d m : List ℕ) (at : ℕ) (stage : Stage) (e p n o : ℕ)
     left = script (s .stage) (drop (s .next) t)
 
     -- what is left, where the line is l and the machine goes on from there
-    goes-on : (l : Line) (d′ m′ : List ℕ) (e′ p′ n′ o′ depth : ℕ) → openIn (s .stage) ≡ depth → Going t d′ m′ left depth e′ p′ n′ o′ → PageRoom d′ m′ → e′ ≤ mostEvents → n′ ≤ mostItems
+    goes-on : (d′ m′ : List ℕ) (e′ p′ n′ o′ depth : ℕ) → openIn (s .stage) ≡ depth → Going t d′ m′ left depth e′ p′ n′ o′ → PageRoom d′ m′ → e′ ≤ mostEvents → n′ ≤ mostItems
         → p′ < 256 → o′ ≤ n′ → length d′ ≡ length d₀ → length m′ ≡ length m₀ → FillingPage t d₀ m₀ d′ m′ (s .next) (s .stage) e′ p′ n′ o′
     unfolding left
-    goes-on l d′ m′ e′ p′ n′ o′ depth z g r fe fn sp i kd km =
+    goes-on d′ m′ e′ p′ n′ o′ depth z g r fe fn sp i kd km =
         record {
           left = turns .more no .left;
           going = rw z g;
@@ -239,3 +376,156 @@ module _ (t d₀ m₀ d m : List ℕ) (at : ℕ) (stage : Stage) (e p n o : ℕ)
       pub page-fault : Paged t d m
       unfolding isFault
       page-fault = let z : isFault Fault ≡ false = rw k at (turns .more no .sure) in let y : _≡_ {A = ℕ} 0 1 = cc in absurd (omega arith)
+
+    module _ (k : s .found ≡ Heading) where
+      is-heading : lineIn t (s .found) ≡ heading
+      unfolding lineIn
+      is-heading = rw k
+
+      pub page-heading : FillingPage t d₀ m₀ d m (s .next) (s .stage) e p n o
+      page-heading =
+          let z = open-heading (balanced heading is-heading) in
+          let y : openIn (s .stage) ≡ openIn stage = rw (behind heading is-heading, z .1, z .0) in
+          goes-on d m e p n o (openIn stage) y (going-heading (before heading is-heading)) (inv .room) (inv .few-events) (inv .few-items) (inv .small) (inv .inside) (inv .durations-kept) (inv .items-kept)
+
+    module _ (start size : ℕ) (k : s .found ≡ Message start size) where
+      name : List ℕ
+      name = bytesIn (label (drop start t))
+
+      is-message : lineIn t (s .found) ≡ message name
+      unfolding lineIn name
+      is-message = rw k
+
+      pub page-message : FillingPage t d₀ m₀ d m (s .next) (s .stage) e p n o
+      page-message =
+          let z = open-message (balanced (message name) is-message) in
+          let y : openIn (s .stage) ≡ openIn stage = rw (behind (message name) is-message, z .1, z .0) in
+          goes-on d m e p n o (openIn stage) y (going-message (before (message name) is-message)) (inv .room) (inv .few-events) (inv .few-items) (inv .small) (inv .inside) (inv .durations-kept) (inv .items-kept)
+
+    module _ (x : ℕ) (k : s .found ≡ Event x) where
+      is-event : lineIn t (s .found) ≡ event x
+      unfolding lineIn
+      is-event = rw k
+
+      pub event-small : x < field
+      event-small = go (rw k at (turns .more no .fits)) where
+        go : Fits t (Event x) → x < field
+        go (fits-event q) = q
+
+      module _ (asked : Tellable t) where
+        event-few : e + 1 ≤ mostEvents
+        event-few = let f = few-told t asked in omega (arith, event-owed (before (event x) is-event))
+
+        pub event-room : eventSize * e + 4 ≤ length d
+        event-room = omega (arith, event-few, inv .room .durations)
+
+        pub page-event : (d′ : List ℕ) (r : ℕ) → Laid d (eventSize * e) (le32 x) d′ r → r ≡ eventSize * e + 4 → FillingPage t d₀ m₀ d′ m (s .next) (s .stage) (e + 1) p n o
+        page-event d′ r laid q =
+            let z = open-event (balanced (event x) is-event) in
+            let y : openIn (s .stage) ≡ openIn stage = rw (behind (event x) is-event, z .1, z .0) in
+            let c : PageRoom d′ m = record { durations = rw (laid .size) (inv .room .durations); items = inv .room .items } in
+            goes-on d′ m (e + 1) p n o (openIn stage) y (going-event d′ r (before (event x) is-event) laid q) c event-few (inv .few-items) (inv .small) (inv .inside) (laid .size ∙ inv .durations-kept) (inv .items-kept)
+
+    module _ (q : ℕ) (k : s .found ≡ Part q) where
+      is-part : lineIn t (s .found) ≡ part q
+      unfolding lineIn
+      is-part = rw k
+
+      part-small : q < 256
+      part-small = go (rw k at (turns .more no .fits)) where
+        go : Fits t (Part q) → q < 256
+        go (fits-part l) = l
+
+      pub page-part : FillingPage t d₀ m₀ d m (s .next) (s .stage) e q n o
+      page-part =
+          let z = open-part (balanced (part q) is-part) in
+          let y : openIn (s .stage) ≡ openIn stage = rw (behind (part q) is-part, z .1, z .0) in
+          goes-on d m e q n o (openIn stage) y (going-part (before (part q) is-part)) (inv .room) (inv .few-events) (inv .few-items) part-small (inv .inside) (inv .durations-kept) (inv .items-kept)
+
+    -- one item more
+    item-room : (m′ : List ℕ) → length m′ ≡ length m → PageRoom d m′
+    item-room m′ z = record { durations = inv .room .durations; items = rw z (inv .room .items) }
+
+    module _ (x y : ℕ) (k : s .found ≡ Send x y) where
+      is-send : lineIn t (s .found) ≡ send x y
+      unfolding lineIn
+      is-send = rw k
+
+      send-small : (x < field) × (y < 65536)
+      send-small = go (rw k at (turns .more no .fits)) where
+        go : Fits t (Send x y) → (x < field) × (y < 65536)
+        go (fits-send a b) = (a, b)
+
+      pub send-number : y < 65536
+      send-number = send-small .1
+
+      module _ (asked : Tellable t) where
+        send-few : n + 1 ≤ mostItems
+        send-few = let f = few-told t asked in omega (arith, send-owed (before (send x y) is-send))
+
+        pub send-room : RowRoom m n e p x
+        send-room = record { room = omega (arith, send-few, inv .room .items); event = inv .few-events; part = inv .small; delay = send-small .0 }
+
+        pub page-send : (m′ : List ℕ) (r : ℕ) → Laid m (itemSize * n) (itemBytes (sendItem p (eventOf o e) x y ∷ [])) m′ r → r ≡ itemSize * n + itemSize
+            → FillingPage t d₀ m₀ d m′ (s .next) (s .stage) e p (n + 1) o
+        unfolding after
+        page-send m′ r laid q =
+            let z : openIn (s .stage) ≡ openIn stage = rw (behind (send x y) is-send) in
+            goes-on d m′ e p (n + 1) o (openIn stage) z (going-send m′ r (before (send x y) is-send) laid q) (item-room m′ (laid .size)) (inv .few-events) send-few (inv .small) (omega (arith, inv .inside)) (inv .durations-kept) (laid .size ∙ inv .items-kept)
+
+    module _ (x y v : ℕ) (k : s .found ≡ Group x y v) where
+      is-group : lineIn t (s .found) ≡ group x y v
+      unfolding lineIn
+      is-group = rw k
+
+      group-small : (x < field) × (y ≤ 1) × (v ≤ 3)
+      group-small = go (rw k at (turns .more no .fits)) where
+        go : Fits t (Group x y v) → (x < field) × (y ≤ 1) × (v ≤ 3)
+        go (fits-group a b c) = (a, b, c)
+
+      pub group-synchrony : y ≤ 1
+      group-synchrony = group-small .1
+
+      pub group-error : v ≤ 3
+      group-error = group-small .2
+
+      module _ (asked : Tellable t) where
+        group-few : n + 1 ≤ mostItems
+        group-few = let f = few-told t asked in omega (arith, group-owed (before (group x y v) is-group))
+
+        pub group-room : RowRoom m n e p x
+        group-room = record { room = omega (arith, group-few, inv .room .items); event = inv .few-events; part = inv .small; delay = group-small .0 }
+
+        pub page-group : (m′ : List ℕ) (r : ℕ) → Laid m (itemSize * n) (itemBytes (groupItem p (eventOf o e) x y v o ∷ [])) m′ r → r ≡ itemSize * n + itemSize
+            → FillingPage t d₀ m₀ d m′ (s .next) (s .stage) e p (n + 1) (n + 1)
+        page-group m′ r laid q =
+            let z : openIn (s .stage) ≡ suc (openIn stage) = rw (behind (group x y v) is-group) (open-group (balanced (group x y v) is-group)) in
+            goes-on d m′ e p (n + 1) (n + 1) (suc (openIn stage)) z (going-group m′ r (before (group x y v) is-group) laid q) (item-room m′ (laid .size)) (inv .few-events) group-few (inv .small) (omega arith) (inv .durations-kept) (laid .size ∙ inv .items-kept)
+
+    module _ (k : s .found ≡ Close) where
+      is-close : lineIn t (s .found) ≡ close
+      unfolding lineIn
+      is-close = rw k
+
+      is-open : (1 ≤ openIn stage) × (openIn (after close stage) ≡ openIn stage - 1)
+      is-open = open-close (balanced close is-close)
+
+      pub close-some : 1 ≤ o
+      close-some = closing (before close is-close) (is-open .0) .0
+
+      pub close-room : itemSize * (o - 1) + itemSize ≤ length m
+      close-room = omega (arith, close-some, inv .inside, inv .few-items, inv .room .items)
+
+      pub page-close : (m′ : List ℕ) (r : ℕ) → Replaced m (o - 1) (n - o) m′ r → FillingPage t d₀ m₀ d m′ (s .next) (s .stage) e p n r
+      page-close m′ r put =
+          let l : itemSize * n ≤ length m = omega (arith, inv .few-items, inv .room .items) in
+          let g = going-close m′ r (before close is-close) (is-open .0) l put in
+          let z : openIn (s .stage) ≡ openIn stage - 1 = rw (behind close is-close) (is-open .1) in
+          goes-on d m′ e p n r (openIn stage - 1) z (g .0) (item-room m′ (put .laid .size)) (inv .few-events) (inv .few-items) (inv .small) (g .1) (inv .durations-kept) (put .laid .size ∙ inv .items-kept)
+
+pub ruleset paging = (page-start, page-asked, page-over, page-fault, page-heading, page-message, event-small, event-room, page-part, send-number, send-room, group-synchrony, group-error, group-room, close-some, close-room, turn-less, needs)
+
+-- where the invariant holds again, each step by itself
+pub ruleset grouping = (page-group, needs)
+
+pub ruleset bracing = (page-close, needs)
