@@ -3,3 +3,4 @@ pub mod RunLaws
 pub mod TurnSteps
 pub mod ListSteps
 pub mod PageSteps
+pub mod MakeSteps

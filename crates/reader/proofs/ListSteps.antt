@@ -206,7 +206,7 @@ module _ (t e₀ l₀ e l : List ℕ) (at n from : ℕ) (inv : FillingList t e�
       let b : take from l ++ [] ≡ textBytes (labelsOf (script Start t)) = rw z at (inv .labels) in
       let a′ : take (messageSize * n) e ≡ entryBytes 0 (labelsOf (script Start t)) = sym (append-nil _) ∙ a in
       let b′ : take from l ≡ textBytes (labelsOf (script Start t)) = sym (append-nil _) ∙ b in
-      record { entries = rw c′ at a′; labels = rw f′ at b′; begun = rw c′ at (inv .begun) }
+      record { entries = rw c′ at a′; labels = rw f′ at b′; begun = rw c′ at (inv .begun); room = inv .room }
 
   module _ (s : Turn) (turns : Turns t at (Listing n) s) where
     pub list-over : s .over ≡ true → Listed t e l at

@@ -335,7 +335,7 @@ module _ (t d₀ m₀ d m : List ℕ) (at : ℕ) (stage : Stage) (e p n o : ℕ)
       let f : g .w ≡ itemsOf 0 0 0 (script Start t) = g .rest in
       let h : take (eventSize * e) d ≡ durationBytes (durationsOf (script Start t)) = sym (append-nil _) ∙ g .events in
       let i : take (itemSize * n) m ≡ itemBytes (itemsOf 0 0 0 (script Start t)) = g .laid ∙ ap itemBytes f in
-      record { durations = rw a′ at h; items = rw b′ at i }
+      record { durations = rw a′ at h; items = rw b′ at i; room = inv .room }
 
   module _ (no : s .over ≡ false) where
     left : Script

@@ -12,7 +12,9 @@ use Rattle.filing.specs.Pieces.{filed}
 use Rattle.script.specs.Balanced.{Balanced}
 use Rattle.text.specs.declared.Stage.the-variants.{Start, Listing}
 use Rattle.text.specs.Grammar.{Script, script}
-use Rattle.text.specs.Said.{labelsOf, durationsOf, itemsOf, pieceOf}
+use Rattle.text.specs.declared.Transcript.{Transcript}
+use Rattle.text.specs.Said.{labelsOf, durationsOf, itemsOf, pieceOf, piece, said}
+use Rattle.text.specs.Transcripts.{fileRoom, answered, roomLeft, fileOf}
 use Rattle.reader.specs.Turns.{Turnable}
 
 -- The text has no fault, and no more of anything than a file may have.
@@ -44,6 +46,7 @@ pub record Listed (t e l : List ℕ) (r : ℕ) : Type 0 where
   pub entries : take (messageSize * length (labelsOf (script Start t))) e ≡ entryBytes 0 (labelsOf (script Start t))
   pub labels : take (length (textBytes (labelsOf (script Start t)))) l ≡ textBytes (labelsOf (script Start t))
   pub begun : Begun t r (length (labelsOf (script Start t)))
+  pub room : ListRoom e l
 
 -- ---- the page
 
@@ -62,6 +65,7 @@ pub record RowRoom (m : List ℕ) (n e p d : ℕ) : Type 0 where
 pub record Paged (t d m : List ℕ) : Type 0 where
   pub durations : take (eventSize * length (durationsOf (script Start t))) d ≡ durationBytes (durationsOf (script Start t))
   pub items : take (itemSize * length (itemsOf 0 0 0 (script Start t))) m ≡ itemBytes (itemsOf 0 0 0 (script Start t))
+  pub room : PageRoom d m
 
 -- ---- the file
 
@@ -70,8 +74,28 @@ pub record Bodies (c : Counts) (durations items entries labels out : List ℕ) :
   pub counted : Counted c
   pub page : PageRoom durations items
   pub list : ListRoom entries labels
-  pub room : 52256 ≤ length out
+  pub room : fileRoom ≤ length out
 
 -- The file of the bodies at the fronts of these bytes.
 unfoldable pub fileIn : Counts → (durations items entries labels : List ℕ) → List ℕ
 fileIn c d m e l = filed c (take (eventSize * c .events) d) (take (itemSize * c .items) m) (take (messageSize * c .messages) e) (take (c .text) l)
+
+-- The text has no fault, these are the counts of what it says, and there is room for a file.
+pub record Writable (t : List ℕ) (c : Counts) (out : List ℕ) : Type 0 where
+  pub told : Tellable t
+  pub counts : c ≡ countsIn (pieceOf (script Start t))
+  pub room : fileRoom ≤ length out
+
+-- ---- the answer
+
+-- The text says the piece of its lines, these are its counts, and there is room for a file.
+pub record Sayable (t : List ℕ) (c : Counts) (m : List ℕ) : Type 0 where
+  pub balanced : Balanced Start (script Start t)
+  pub says : said t ≡ piece (pieceOf (script Start t))
+  pub counts : c ≡ countsIn (pieceOf (script Start t))
+  pub room : fileRoom ≤ length m
+
+-- What is told of it, and what then stands in the room.
+pub record Answers (t m new : List ℕ) (r : Transcript) : Type 0 where
+  pub answer : r ≡ answered t (said t)
+  pub left : new ≡ roomLeft r (fileOf (said t)) m

@@ -1,0 +1,235 @@
+-- From the bodies to the file and its answer, in the code's own terms.
+-- Assumes nothing.
+use mathlib.Core.Path.{_≡_, refl, sym, ap, _∙_}
+use mathlib.Core.List.{List, [], _∷_, _++_}
+use Prim.Native.Nat.{ℕ, _+_, _-_, _*_, _<_, _≤_}
+use native.Mathlib.Omega.{arith}
+use lib.ListN.{length, take, drop, take-append-drop}
+use lib.Seq.{length-take-le}
+use borrow.Author.Tests.{le-leb, lt-leb}
+use borrow.Author.Needs.{needs}
+use Rattle.base.specs.Tests.{pick, every, between}
+use Rattle.base.specs.Checks.{fine, refused, need, firstFault}
+use Rattle.ascii.specs.Laying.{Laid}
+use Rattle.tokens.specs.declared.Place.{Place}
+use Rattle.tokens.specs.Places.{placeBehind}
+use Rattle.contents.specs.declared.Counts.{Counts}
+use Rattle.contents.specs.declared.Fault.{Fault}
+use Rattle.contents.specs.declared.Verdict.{Verdict}
+use Rattle.contents.specs.declared.Verdict.the-variants.{Fine, Refused}
+use Rattle.contents.specs.Limits.{contentsSize, eventSize, itemSize, messageSize, mostEvents, mostItems, mostMessages, mostText}
+use Rattle.contents.specs.Contents.{countsRight}
+use Rattle.contents.specs.Inner.{Counted}
+use Rattle.contents.specs.Replies.{verdictOf}
+use Rattle.contents.proofs.Verdicts.{verdict-fine, verdict-refused}
+use Rattle.contents.proofs.ContentsLaws.{counts-told}
+use Rattle.score.specs.Piece.{Piece}
+use Rattle.score.specs.Encode.{countsIn, encode}
+use Rattle.score.specs.File.{checked}
+use Rattle.score.proofs.EncodingPieces.{size-encode}
+use Rattle.filing.specs.Pieces.{filed, Filable}
+use Rattle.text.specs.declared.Stage.the-variants.{Start, Listing}
+use Rattle.text.specs.declared.Transcript.{Transcript}
+use Rattle.text.specs.declared.Transcript.the-variants.{Made, NoRoom, BadText, BadFile}
+use Rattle.text.specs.Grammar.{Script, done, more, fault, script}
+use Rattle.text.specs.Said.{labelsOf, durationsOf, itemsOf, pieceOf, Reading, piece, unread, told, said}
+use Rattle.text.specs.Transcripts.{roomLeft, fileRoom, pieceRight, judged, faultAt, answered, fileOf, readAnswer}
+use Rattle.script.specs.declared.Tally.{Tally}
+use Rattle.script.specs.declared.Tally.the-variants as tally
+use Rattle.script.specs.Tallies.{tallyOf}
+use Rattle.script.proofs.BalancedLaws.{counted-balanced, counted-said, counts-said}
+use Rattle.reader.specs.Filled.{Tellable, Begun, ListRoom, Listed, PageRoom, Paged, Bodies, fileIn, Writable, Sayable, Answers}
+
+-- ---- the bodies and the file
+
+module _ (c : Counts) (d m e l out : List ℕ) (asked : Bodies c d m e l out) where
+  pub durations-end : eventSize * c .events ≤ length d
+  durations-end = omega (arith, asked .counted .events, asked .page .durations)
+
+  pub items-end : itemSize * c .items ≤ length m
+  items-end = omega (arith, asked .counted .items, asked .page .items)
+
+  pub entries-end : messageSize * c .messages ≤ length e
+  entries-end = omega (arith, asked .counted .messages, asked .list .entries)
+
+  pub labels-end : c .text ≤ length l
+  labels-end = omega (arith, asked .counted .text, asked .list .labels)
+
+  pub join-asked : Filable c (take (eventSize * c .events) d) (take (itemSize * c .items) m) (take (messageSize * c .messages) e) (take (c .text) l) out
+  join-asked =
+      let k = asked .counted in
+      let r = asked .room in
+      let a = length-take-le (eventSize * c .events) d durations-end in
+      let b = length-take-le (itemSize * c .items) m items-end in
+      let f = length-take-le (messageSize * c .messages) e entries-end in
+      let g = length-take-le (c .text) l labels-end in
+      record { counted = k; room = rw (a, b, f, g) (omega arith) }
+
+  pub joined : (n : List ℕ) (r : ℕ) → Laid out 0 (filed c (take (eventSize * c .events) d) (take (itemSize * c .items) m) (take (messageSize * c .messages) e) (take (c .text) l)) n r
+      → Laid out 0 (fileIn c d m e l) n r
+  unfolding fileIn
+  joined n r p = p
+
+pub ruleset joins = (durations-end, items-end, entries-end, labels-end, join-asked, joined, length-take-le, needs)
+
+module _ (t : List ℕ) (c : Counts) (out : List ℕ) (asked : Writable t c out) where
+  counted : Counted c
+  counted = rw (asked .counts) (asked .told .counted)
+
+  pub page-begun : (e l : List ℕ) (r : ℕ) → Listed t e l r → Begun t r (c .messages)
+  unfolding countsIn pieceOf
+  page-begun e l r p = rw (asked .counts) (p .begun)
+
+  pub write-asked : (d m e l : List ℕ) (at : ℕ) → Listed t e l at → Paged t d m → Bodies c d m e l out
+  write-asked d m e l at p q = record { counted = counted; page = q .room; list = p .room; room = asked .room }
+
+  pub written-file : (d m e l n : List ℕ) (at r : ℕ) → Listed t e l at → Paged t d m → Laid out 0 (fileIn c d m e l) n r → Laid out 0 (encode (pieceOf (script Start t))) n r
+  unfolding fileIn filed encode countsIn pieceOf
+  written-file d m e l n at r p q laid = rw (asked .counts, p .entries, p .labels, q .durations, q .items) at laid
+
+pub ruleset writes = (page-begun, write-asked, written-file, needs)
+
+-- ---- the file's answer
+
+counts-right : (c : Counts) → Counted c → countsRight c ≡ fine
+unfolding countsRight firstFault need between every
+counts-right c k =
+    rw (
+      le-leb 1 (c .events) (k .some),
+      le-leb (c .events) mostEvents (k .events),
+      le-leb (c .items) mostItems (k .items),
+      le-leb (c .messages) mostMessages (k .messages),
+      le-leb (c .text) mostText (k .text),
+    )
+
+-- what is laid from the front on stands there alone
+front-is : (o n bs : List ℕ) (r : ℕ) → Laid o 0 bs n r → take r n ≡ bs
+front-is o n bs r laid = laid .front
+
+-- and what stands behind it stays
+room-is : (o n bs : List ℕ) (r : ℕ) → Laid o 0 bs n r → n ≡ bs ++ drop r o
+room-is o n bs r laid = sym (take-append-drop r n) ∙ rw (laid .others) (ap (λ (l : List ℕ). l ++ drop r o) (front-is o n bs r laid))
+
+module _ (t : List ℕ) (c : Counts) (m : List ℕ) (asked : Sayable t c m) where
+  says-counts : countsRight (countsIn (pieceOf (script Start t))) ≡ countsRight c
+  says-counts = rw (asked .counts)
+
+  pub count-refused : (v : Verdict) (x : Fault) → v ≡ verdictOf (countsRight c) → v ≡ Refused x → Answers t m m (BadFile x)
+  unfolding answered pieceRight firstFault judged roomLeft
+  count-refused v x e p =
+      let z : countsRight (countsIn (pieceOf (script Start t))) ≡ refused x = says-counts ∙ verdict-refused (countsRight c) v x e p in
+      record { answer = rw (asked .says, z); left = refl }
+
+  pub make-asked : Counted c → (file : List ℕ) → fileRoom ≤ length file → Writable t c file
+  make-asked k file r = record { told = record { balanced = asked .balanced; counted = rw (asked .counts) at k }; counts = asked .counts; room = r }
+
+  -- the room holds the largest file
+  pub put-room : Counted c → (file file′ : List ℕ) (size : ℕ) → Laid file 0 (encode (pieceOf (script Start t))) file′ size → 0 + length (take size file′) ≤ length m
+  put-room k file file′ size laid =
+      let k′ : Counted (countsIn (pieceOf (script Start t))) = rw (asked .counts) at k in
+      omega (
+        arith,
+        length-take-le size file′ (laid .within),
+        laid .stop,
+        size-encode (pieceOf (script Start t)),
+        k′ .events,
+        k′ .items,
+        k′ .messages,
+        k′ .text,
+        asked .room,
+      )
+
+  module _ (v : Verdict) (file file′ : List ℕ) (size : ℕ) (laid : Laid file 0 (encode (pieceOf (script Start t))) file′ size) (e : v ≡ verdictOf (checked (take size file′))) where
+    stands : take size file′ ≡ encode (pieceOf (script Start t))
+    stands = laid .front
+
+    fine-counts : Counted c → countsRight (countsIn (pieceOf (script Start t))) ≡ fine
+    fine-counts k = counts-right (countsIn (pieceOf (script Start t))) (rw (asked .counts) at k)
+
+    pub file-refused : Counted c → (x : Fault) → v ≡ Refused x → Answers t m m (BadFile x)
+    unfolding answered pieceRight firstFault judged roomLeft
+    file-refused k x p =
+        let z : checked (encode (pieceOf (script Start t))) ≡ refused x = rw stands at (verdict-refused (checked (take size file′)) v x e p) in
+        record { answer = rw (asked .says, fine-counts k, z); left = refl }
+
+    pub file-made : Counted c → v ≡ Fine → (m′ : List ℕ) (r : ℕ) → Laid m 0 (take size file′) m′ r → Answers t m m′ (Made size)
+    unfolding answered pieceRight firstFault judged roomLeft fileOf
+    file-made k p m′ r put =
+        let z : checked (encode (pieceOf (script Start t))) ≡ fine = rw stands at (verdict-fine (checked (take size file′)) v e p) in
+        let n : size ≡ length (encode (pieceOf (script Start t))) = omega (arith, laid .stop) in
+        let l : length (take size file′) ≡ size = length-take-le size file′ (laid .within) in
+        let q : r ≡ size = omega (arith, put .stop) in
+        let w : m′ ≡ take size file′ ++ drop r m = room-is m m′ (take size file′) r put in
+        let w′ : m′ ≡ encode (pieceOf (script Start t)) ++ drop size m = rw (stands, q) at w in
+        record { answer = rw (asked .says, fine-counts k, z, ← n); left = rw (asked .says) w′ }
+
+pub ruleset makes = (make-asked, put-room, file-refused, file-made, length-take-le, needs)
+
+pub ruleset judges = (count-refused, counts-told, needs)
+
+pub place-told : (t : List ℕ) (at : ℕ) (p : Place) → p ≡ placeBehind (take at t) → BadText (p .line) (p .column) ≡ faultAt (placeBehind (take at t))
+unfolding faultAt
+place-told t at p e = rw e
+
+pub ruleset places = (place-told, length-take-le, needs)
+
+-- ---- what the first pass told decides
+
+unread-within : (size at : ℕ) (p : Piece) (s : Script) → told size p s ≡ unread at → at ≤ size
+unfolding told
+unread-within size at p done e = let z : _≡_ {A = ℕ} 0 1 = cc in absurd (omega arith)
+unread-within size at p (more l s) e = unread-within size at p s e
+unread-within size at p (fault left) e = let z : size - length left ≡ at = cc in omega arith
+
+module _ (t m : List ℕ) where
+  pub read-short : length m < fileRoom → NoRoom ≡ readAnswer (length m) t
+  unfolding readAnswer pick
+  read-short p = rw (lt-leb fileRoom (length m) p)
+
+  pub left-short : m ≡ roomLeft NoRoom (fileOf (said t)) m
+  unfolding roomLeft
+  left-short = refl
+
+  module _ (v : Tally) (found : v ≡ tallyOf (said t)) where
+    module _ (at : ℕ) (k : v ≡ tally.Faulty at) where
+      is-unread : said t ≡ unread at
+      unfolding tallyOf
+      is-unread = go (said t) refl where
+        go : (r : Reading) → said t ≡ r → said t ≡ unread at
+        go (unread b) e = let f : v ≡ tally.Faulty b = rw e at found in let z : b ≡ at = cc in rw z at e
+        go (piece p) e = let f : v ≡ tally.Counted (countsIn p) = rw e at found in let z : _≡_ {A = ℕ} 0 1 = cc in absurd (omega arith)
+
+      pub fault-within : at ≤ length t
+      unfolding said
+      fault-within = unread-within (length t) at (pieceOf (script Start t)) (script Start t) is-unread
+
+      pub read-fault : (r : Transcript) → fileRoom ≤ length m → r ≡ faultAt (placeBehind (take at t)) → r ≡ readAnswer (length m) t
+      unfolding readAnswer pick answered
+      read-fault r p q = rw (le-leb fileRoom (length m) p, is-unread) q
+
+      pub left-fault : (r : Transcript) → r ≡ faultAt (placeBehind (take at t)) → m ≡ roomLeft r (fileOf (said t)) m
+      unfolding roomLeft faultAt
+      left-fault r q = rw q
+
+    module _ (c : Counts) (k : v ≡ tally.Counted c) where
+      told-counts : tally.Counted c ≡ tallyOf (said t)
+      told-counts = sym k ∙ found
+
+      pub read-asked : fileRoom ≤ length m → Sayable t c m
+      read-asked p = record { balanced = counted-balanced t c told-counts; says = counted-said t c told-counts; counts = counts-said t c told-counts; room = p }
+
+  module _ (m′ : List ℕ) (r : Transcript) (a : Answers t m m′ r) where
+    pub read-told : fileRoom ≤ length m → r ≡ readAnswer (length m) t
+    unfolding readAnswer pick
+    read-told p = rw (le-leb fileRoom (length m) p) (a .answer)
+
+    pub left-told : m′ ≡ roomLeft r (fileOf (said t)) m
+    left-told = a .left
+
+pub ruleset readings = (read-short, left-short, fault-within, read-fault, left-fault, read-asked, read-told, left-told, needs)
+
+-- ---- no second outcome
+
+pub one-outcome : (t m new other : List ℕ) (r s : Transcript) → r ≡ readAnswer (length m) t → new ≡ roomLeft r (fileOf (said t)) m → s ≡ readAnswer (length m) t
+    → other ≡ roomLeft s (fileOf (said t)) m → (r ≡ s) × (new ≡ other)
+one-outcome t m new other r s a b c d = (a ∙ sym c, cc)

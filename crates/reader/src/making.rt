@@ -1,0 +1,118 @@
+// The file of what a text says, from its bodies, and the answer to it.
+ghost use mathlib.Core.Path.{_≡_};
+ghost use Prim.Native.Nat.{_≤_};
+ghost use lib.ListN.{length, take};
+ghost use Rattle.ascii.specs.Laying.{Laid};
+ghost use Rattle.tokens.specs.Places.{placeBehind};
+ghost use Rattle.score.specs.Encode.{encode};
+ghost use Rattle.text.specs.declared.Stage.the-variants.{Start};
+ghost use Rattle.text.specs.Grammar.{script};
+ghost use Rattle.text.specs.Said.{pieceOf};
+ghost use Rattle.text.specs.Transcripts.{faultAt};
+ghost use Rattle.contents.specs.Inner.{Counted};
+ghost use Rattle.reader.specs.Filled.{Bodies, fileIn, Writable, Sayable, Answers};
+use crate::listing::fill_list;
+use crate::paging::fill_page;
+use ascii::put_bytes;
+use contents::Counts;
+use contents::Verdict;
+use contents::check_counts;
+use contents::limits::EVENT_SIZE;
+use contents::limits::ITEM_SIZE;
+use contents::limits::MESSAGE_SIZE;
+use filing::put_file;
+use score::check_file;
+use text::Transcript;
+use tokens::place_behind;
+
+// Room for the largest file, and for its bodies.
+pub const FILE_ROOM: usize = 52256;
+
+const DURATIONS_ROOM: usize = 1024;
+
+const ITEMS_ROOM: usize = 24576;
+
+const ENTRIES_ROOM: usize = 2048;
+
+const LABELS_ROOM: usize = 24576;
+
+// The file of the bodies at the fronts of these bytes, from the front of `out`. Answers its length.
+fn join(
+    out: &mut [u8],
+    c: Counts,
+    durations: &[u8],
+    items: &[u8],
+    entries: &[u8],
+    labels: &[u8],
+) -> usize
+    requires { ⌜ Bodies c (now durations) (now items) (now entries) (now labels) (now out) ⌝ }
+    ensures { λ r. ⌜ Laid (now (out .entry)) 0 (fileIn c (now (durations .entry)) (now (items .entry)) (now (entries .entry)) (now (labels .entry))) (now (out .exit)) r ⌝ }
+{
+    let a = EVENT_SIZE * c.events;
+    let b = ITEM_SIZE * c.items;
+    let d = MESSAGE_SIZE * c.messages;
+    let e = c.text;
+    put_file(
+        out,
+        c,
+        &durations[..a],
+        &items[..b],
+        &entries[..d],
+        &labels[..e],
+    )
+}
+
+// The second pass: the file of what the text says, from the front of `out`. Answers its length.
+fn write_file(text: &[u8], c: Counts, out: &mut [u8]) -> usize
+    requires { ⌜ Writable (now text) c (now out) ⌝ }
+    ensures { λ r. ⌜ Laid (now (out .entry)) 0 (encode (pieceOf (script Start (now (text .entry))))) (now (out .exit)) r ⌝ }
+{
+    let mut entries = [0; ENTRIES_ROOM];
+    let mut labels = [0; LABELS_ROOM];
+    let page = fill_list(text, &mut entries, &mut labels);
+    let mut durations = [0; DURATIONS_ROOM];
+    let mut items = [0; ITEMS_ROOM];
+    fill_page(text, page, c.messages, &mut durations, &mut items);
+    join(out, c, &durations, &items, &entries, &labels)
+}
+
+// A text whose counts are right: its file is checked before the room is touched.
+fn make(text: &[u8], c: Counts, room: &mut [u8]) -> Transcript
+    requires { ⌜ Sayable (now text) c (now room) × Counted c ⌝ }
+    ensures { λ r. ⌜ Answers (now (text .entry)) (now (room .entry)) (now (room .exit)) r ⌝ }
+{
+    let mut file = [0; FILE_ROOM];
+    let size = write_file(text, c, &mut file);
+    let checked = check_file(&file[..size]);
+    match checked {
+        Verdict::Fine => {
+            put_bytes(room, 0, &file[..size]);
+            Transcript::Made { size }
+        }
+        Verdict::Refused(fault) => Transcript::BadFile { fault },
+    }
+}
+
+// A text without a fault. "a text past a count limit then gets the 4 its file would"
+pub fn judge(text: &[u8], c: Counts, room: &mut [u8]) -> Transcript
+    requires { ⌜ Sayable (now text) c (now room) ⌝ }
+    ensures { λ r. ⌜ Answers (now (text .entry)) (now (room .entry)) (now (room .exit)) r ⌝ }
+{
+    let counted = check_counts(c);
+    match counted {
+        Verdict::Fine => make(text, c, room),
+        Verdict::Refused(fault) => Transcript::BadFile { fault },
+    }
+}
+
+// A text with its first fault at this byte.
+pub fn fault(text: &[u8], at: usize) -> Transcript
+    requires { ⌜ at ≤ length (now text) ⌝ }
+    ensures { λ r. ⌜ r ≡ faultAt (placeBehind (take at (now (text .entry)))) ⌝ }
+{
+    let p = place_behind(&text[..at]);
+    Transcript::BadText {
+        line: p.line,
+        column: p.column,
+    }
+}
