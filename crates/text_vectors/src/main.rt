@@ -1,5 +1,6 @@
 // Runs the cases of texts.bin through the two calls of the text form: for each a line with number, place, line, column and size of the reply, then, where it was granted, the bytes in the room and a newline.
 // A case is a byte, 0 for a text to be read and 1 for a file to be written, the room's length, the input's length, each a u32, and the input. The second program makes the cases and says what is right.
+ghost use Prim.Native.Nat.{_<_, _≤_};
 use text::TextReply;
 use text::Transcript;
 
@@ -41,8 +42,9 @@ fn print_reply(r: TextReply, room: &[u8]) {
     if room.len() < r.size {
         return;
     }
+    let from = 0;
     let n = r.size;
-    io::write_all(OUT, &room[..n]);
+    io::write_all(OUT, &room[from..n]);
     io::write_all(OUT, b"\n");
 }
 
@@ -64,7 +66,8 @@ fn read_part(fd: i32, buf: &mut [u8], size: usize) -> bool {
     if buf.len() < size {
         return false;
     }
-    let got = io::read_full(fd, &mut buf[..size]);
+    let from = 0;
+    let got = io::read_full(fd, &mut buf[from..size]);
     got == size
 }
 
@@ -75,7 +78,8 @@ fn run_part(write: bool, input: &[u8], size: usize, room: &mut [u8], length: usi
     if room.len() < length {
         return;
     }
-    run_case(write, &input[..size], &mut room[..length]);
+    let from = 0;
+    run_case(write, &input[from..size], &mut room[from..length]);
 }
 
 // One case from the file: false at its end, or where a case is cut off or longer than there is room for.
@@ -94,16 +98,21 @@ fn run_next(fd: i32, input: &mut [u8], room: &mut [u8]) -> bool {
     true
 }
 
-fn main() {
+// All of them.
+fn run_cases(input: &mut [u8], room: &mut [u8]) {
     let fd = os::open_read(b"texts.bin");
-    let mut input = [0u8; INPUT_ROOM];
-    let mut room = [0u8; TEXT_ROOM];
     let mut turns: u32 = 0;
     while turns < 1000000 {
-        if !run_next(fd, &mut input, &mut room) {
+        if !run_next(fd, input, room) {
             libc::close(fd);
             return;
         }
         turns += 1;
     }
+}
+
+fn main() {
+    let mut input = [0u8; INPUT_ROOM];
+    let mut room = [0u8; TEXT_ROOM];
+    run_cases(&mut input, &mut room);
 }
