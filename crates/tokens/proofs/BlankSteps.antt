@@ -14,7 +14,7 @@ use Rattle.ascii.specs.Words.{newline, space}
 use Rattle.ascii.proofs.WordSteps.{drop-next}
 use Rattle.tokens.specs.Bytes.{tab, carriageReturn, hash, isBlank}
 use Rattle.tokens.specs.Tokens.{pastBlanks}
-use Rattle.tokens.specs.Asked.{PassesComment, Passes}
+use Rattle.tokens.specs.Asked.{PassesComment, InBlanks, Passes}
 
 -- ---- a blank
 
@@ -57,11 +57,11 @@ module _ (t : List ℕ) (at i : ℕ) (inv : InComment t at i) where
       record { left = sym (e ∙ inv .left); from = inv .from; within = inv .within }
 
   module _ (more : i < length t) where
-    pub comment-ends : getD t i 0 ≡ newline → PassesComment t at (i + 1)
-    unfolding pastBlanks pick
+    pub comment-ends : getD t i 0 ≡ newline → PassesComment t at i
+    unfolding pastBlanks isBlank pick
     comment-ends e =
-        let l : pastBlanks false (drop (i + 1) t) ≡ pastBlanks true (drop at t) = rw (drop-next t i more, eq-eqb (getD t i 0) newline e) at (inv .left) in
-        record { left = sym l; from = omega (arith, inv .from); within = omega arith }
+        let l : pastBlanks true (drop i t) ≡ pastBlanks false (drop i t) = rw (drop-next t i more, e) in
+        record { left = sym (inv .left) ∙ l; from = inv .from; within = inv .within }
 
     pub comment-step : (getD t i 0 ≡ newline → ⊥) → InComment t at (i + 1)
     unfolding pastBlanks pick
@@ -73,11 +73,6 @@ pub ruleset commenting = (comment-start, comment-over, comment-ends, comment-ste
 
 -- ---- within blanks
 
-pub record InBlanks (t : List ℕ) (at i : ℕ) : Type 0 where
-  pub left : pastBlanks false (drop i t) ≡ pastBlanks false (drop at t)
-  pub from : at ≤ i
-  pub within : i ≤ length t
-
 pub blanks-start : (t : List ℕ) (at : ℕ) → at ≤ length t → InBlanks t at at
 blanks-start t at p = record { left = refl; from = omega arith; within = p }
 
@@ -88,13 +83,19 @@ module _ (t : List ℕ) (at i : ℕ) (inv : InBlanks t at i) where
       let e : pastBlanks false (drop i t) ≡ drop i t = rw (drop-of-length-le t p) in
       record { left = sym (inv .left) ∙ e; from = inv .from; within = inv .within }
 
+  pub spaces-step : i < length t → getD t i 0 ≡ space → InBlanks t at (i + 1)
+  unfolding pastBlanks isBlank pick
+  spaces-step more e =
+      let l : pastBlanks false (drop (i + 1) t) ≡ pastBlanks false (drop i t) = rw (drop-next t i more, e) in
+      record { left = l ∙ inv .left; from = omega (arith, inv .from); within = omega arith }
+
   module _ (more : i < length t) (r : Bool) (told : r ≡ isBlank (getD t i 0)) where
-    pub blanks-step : r ≡ true → InBlanks t at (i + 1)
+    pub blanks-step : (k : ℕ) → r ≡ true → InBlanks t (i + 1) k → InBlanks t at k
     unfolding pastBlanks pick
-    blanks-step e =
+    blanks-step k e s =
         let b : isBlank (getD t i 0) ≡ true = sym told ∙ e in
         let l : pastBlanks false (drop (i + 1) t) ≡ pastBlanks false (drop at t) = rw (drop-next t i more, b) at (inv .left) in
-        record { left = l; from = omega (arith, inv .from); within = omega arith }
+        record { left = s .left ∙ l; from = omega (arith, inv .from, s .from); within = s .within }
 
     pub blanks-found : r ≡ false → (getD t i 0 ≡ hash → ⊥) → Passes t at i
     unfolding pastBlanks pick
@@ -110,4 +111,6 @@ module _ (t : List ℕ) (at i : ℕ) (inv : InBlanks t at i) where
         let l : pastBlanks true (drop (i + 1) t) ≡ pastBlanks false (drop at t) = rw (drop-next t i more, b, eq-eqb (getD t i 0) hash n) at (inv .left) in
         record { left = sym (c .left) ∙ l; from = omega (arith, inv .from, c .from); within = c .within }
 
-pub ruleset passing = (blanks-start, blanks-over, blanks-step, blanks-found, blanks-hash, needs)
+pub ruleset spacing = (blanks-start, spaces-step, needs)
+
+pub ruleset passing = (blanks-over, blanks-step, blanks-found, blanks-hash, needs)

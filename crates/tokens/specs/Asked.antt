@@ -18,6 +18,12 @@ pub record PassesComment (t : List ℕ) (at r : ℕ) : Type 0 where
   pub from : at ≤ r
   pub within : r ≤ length t
 
+-- All from at up to r are blanks.
+pub record InBlanks (t : List ℕ) (at r : ℕ) : Type 0 where
+  pub left : pastBlanks false (drop r t) ≡ pastBlanks false (drop at t)
+  pub from : at ≤ r
+  pub within : r ≤ length t
+
 -- "any number of blanks"
 pub record Passes (t : List ℕ) (at r : ℕ) : Type 0 where
   pub left : pastBlanks false (drop at t) ≡ drop r t

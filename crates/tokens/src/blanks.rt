@@ -3,7 +3,7 @@ ghost use mathlib.Core.Path.{_≡_};
 ghost use Prim.Native.Nat.{_≤_};
 ghost use lib.ListN.{length};
 ghost use Rattle.tokens.specs.Bytes.{isBlank};
-ghost use Rattle.tokens.specs.Asked.{Passes, PassesComment};
+ghost use Rattle.tokens.specs.Asked.{PassesComment, InBlanks, Passes};
 use ascii::NEWLINE;
 use ascii::SPACE;
 
@@ -24,7 +24,7 @@ fn is_blank(b: u8) -> bool
     b == NEWLINE
 }
 
-// Where the line ends that a comment stands in, from within it.
+// The newline that ends the line of a comment, from within it, or the text's end.
 fn past_comment(text: &[u8], at: usize) -> usize
     requires { ⌜ at ≤ length (now text) ⌝ }
     ensures { λ r. ⌜ PassesComment (now (text .entry)) at r ⌝ }
@@ -33,7 +33,23 @@ fn past_comment(text: &[u8], at: usize) -> usize
     while i < text.len() {
         let b = text[i];
         if b == NEWLINE {
-            return i + 1;
+            return i;
+        }
+        i += 1;
+    }
+    i
+}
+
+// The first byte from `at` on that is no space: most blanks are spaces, and this way they cost least.
+fn past_spaces(text: &[u8], at: usize) -> usize
+    requires { ⌜ at ≤ length (now text) ⌝ }
+    ensures { λ r. ⌜ InBlanks (now (text .entry)) at r ⌝ }
+{
+    let mut i = at;
+    while i < text.len() {
+        let b = text[i];
+        if b != SPACE {
+            return i;
         }
         i += 1;
     }
@@ -45,11 +61,11 @@ pub fn past_blanks(text: &[u8], at: usize) -> usize
     requires { ⌜ at ≤ length (now text) ⌝ }
     ensures { λ r. ⌜ Passes (now (text .entry)) at r ⌝ }
 {
-    let mut i = at;
+    let mut i = past_spaces(text, at);
     while i < text.len() {
         let b = text[i];
         if is_blank(b) {
-            i += 1;
+            i = past_spaces(text, i + 1);
             continue;
         }
         if b != HASH {

@@ -2,7 +2,8 @@
 -- Assumes nothing.
 use Prim.Native.Nat.{_-_}
 use lib.ListN.{length}
-use Rattle.tokens.proofs.BlankSteps.{InBlanks, passing}
+use Rattle.tokens.specs.Asked.{InBlanks}
+use Rattle.tokens.proofs.BlankSteps.{passing}
 use Rattle.tokens.proofs.blanks.past_blanks.Statement.{statement}
 use Rattle.tokens.proofs.blanks.past_blanks.Tie as tie
 
@@ -18,10 +19,12 @@ past-blanks-spec =
     (tie.spec
     Inv-loop
     μ-loop
+    (λ c κs. search passing)
     (λ c. search passing)
     (λ c. search passing)
     (λ c κs. search passing)
     (λ c. search passing)
+    (λ c κs. search passing)
     (λ c. search passing)
     (λ c. search passing)
     (λ c. search passing)

@@ -24,5 +24,4 @@ past-comment-spec =
     (λ c. search commenting)
     (λ c. search commenting)
     (λ c. search commenting)
-    (λ c. search commenting)
     (λ c. search commenting))
