@@ -22,6 +22,7 @@ use Rattle.text.specs.Grammar.{entry, timed, parted, item, closed, line, mayEnd
 use Rattle.script.specs.declared.Found.the-variants.{Heading}
 use Rattle.script.specs.declared.Step.{Step}
 use Rattle.script.specs.Steps.{PassesWord, faultAt, lineOf, asLine, Lines, fits-heading}
+use Rattle.script.proofs.WordSteps.{event-stands, part-stands}
 use Rattle.script.proofs.LineSteps.{fault-lines}
 
 -- ---- the text's end
@@ -125,11 +126,11 @@ module _ (t : List ℕ) (at : ℕ) (s : Bool) (told : s ≡ isWord eventWord (dr
             let v : isWord partWord (drop at t) ≡ false = sym asked ∙ none in
             rw (w, v) l
 
-pub ruleset listing = (listed-event, listed-entry, needs)
+pub ruleset listing = (event-stands, listed-event, listed-entry, needs)
 
-pub ruleset dividing = (divided-event, divided-part, divided-none, needs)
+pub ruleset dividing = (event-stands, part-stands, divided-event, divided-part, divided-none, needs)
 
-pub ruleset playing = (played-event, played-part, played-item, needs)
+pub ruleset playing = (event-stands, part-stands, played-event, played-part, played-item, needs)
 
 -- ---- a line
 

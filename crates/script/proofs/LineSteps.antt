@@ -21,6 +21,7 @@ use Rattle.text.specs.Grammar.{Line, message, named, entry, timed, parted, sent
 use Rattle.script.specs.declared.Found.the-variants.{Message, Event, Part, Send, Group, Close}
 use Rattle.script.specs.declared.Step.{Step}
 use Rattle.script.specs.Steps.{PassesWord, faultAt, lineOf, asLine, Lines, fits-message, fits-event, fits-part, fits-send, fits-group, fits-close, fits-fault}
+use Rattle.script.proofs.WordSteps.{send-stands, group-stands, synchrony-stands, error-stands}
 
 fault-says : (t : List ℕ) (at : ℕ) → asLine t (faultAt at) ≡ stop (drop at t)
 unfolding asLine lineOf
@@ -153,7 +154,7 @@ module _ (t : List ℕ) (at delay w v : ℕ) (told : v ≡ errorAt (drop at t)) 
       let m = rw told at l in
       rw (e, b .left) m
 
-pub ruleset erroring = (erring-none, erring-read, needs)
+pub ruleset erroring = (error-stands, erring-none, erring-read, needs)
 
 module _ (t : List ℕ) (at delay w : ℕ) (told : w ≡ synchronyAt (drop at t)) where
   pub grouped-none : (r : Step) → 2 ≤ w → Lines t (erring delay 0 (drop at t)) r → Lines t (grouped delay (drop at t)) r
@@ -167,7 +168,7 @@ module _ (t : List ℕ) (at delay w : ℕ) (told : w ≡ synchronyAt (drop at t)
       let m = rw told at l in
       rw (e, b .left) m
 
-pub ruleset grouping = (grouped-none, grouped-read, needs)
+pub ruleset grouping = (synchrony-stands, grouped-none, grouped-read, needs)
 
 -- ---- what stands behind a delay
 
@@ -191,7 +192,7 @@ module _ (t : List ℕ) (at delay : ℕ) (s : Bool) (told : s ≡ isWord sendWor
         let v : isWord groupWord (drop at t) ≡ false = sym asked ∙ p in
         fault-lines t _ at r start (rw (w, v)) e
 
-pub ruleset actions = (action-send, action-group, action-none, needs)
+pub ruleset actions = (send-stands, group-stands, action-send, action-group, action-none, needs)
 
 -- ---- an item
 

@@ -1,58 +1,29 @@
--- Each step behind a word, and which word of a group stands, in the code's own terms.
+-- Which word stands, and what stands behind it, in the code's own terms.
 -- Assumes nothing.
 use mathlib.Core.Path.{_≡_, refl, sym, _∙_}
-use mathlib.Core.Bool.{Bool, true, false, not}
-use mathlib.Core.List.{List, []}
-use Prim.Native.Nat.{ℕ, _+_, _-_, _<_, _≤_}
+use mathlib.Core.Bool.{Bool, true, false}
+use mathlib.Core.List.{List}
+use Prim.Native.Nat.{ℕ, _+_, _<_, _≤_}
 use native.Mathlib.Omega.{arith}
-use lib.ListN.{length, drop, getD, drop-of-length-le}
+use lib.ListN.{length, drop, length-drop}
+use lib.Seq.{drop-drop}
+use borrow.Author.Tests.{eq-eqb, ne-eqb}
 use borrow.Author.Needs.{needs}
 use Rattle.base.specs.Tests.{pick}
-use Rattle.base.proofs.TestLaws.{told-true, told-false}
-use Rattle.ascii.proofs.WordSteps.{drop-next}
-use Rattle.tokens.specs.Bytes.{isLetter}
-use Rattle.tokens.specs.Tokens.{pastBlanks, behind, isWord}
+use Rattle.tokens.specs.Tokens.{isWord}
 use Rattle.tokens.specs.Asked.{Passes}
-use Rattle.text.specs.Words.{looseWord, tightWord, localWord, globalWord, partialWord, causalWord}
+use Rattle.tokens.proofs.ShorterLaws.{word-behind}
+use Rattle.text.specs.Words.{eventWord, partWord, sendWord, groupWord, looseWord, tightWord, localWord, globalWord, partialWord, causalWord}
 use Rattle.text.specs.Grammar.{pastWord, synchronyAt, errorAt}
-use Rattle.script.specs.Steps.{PassesWord}
+use Rattle.script.specs.Steps.{Stands, errorSize, PassesWord}
 
 -- ---- past a word
 
-pub record InWord (t : List ℕ) (at i : ℕ) : Type 0 where
-  pub left : behind isLetter (drop i t) ≡ behind isLetter (drop at t)
-  pub from : at ≤ i
-  pub within : i ≤ length t
+pub word-passed : (t : List ℕ) (at size k : ℕ) → Stands t at size → Passes t (at + size) k → PassesWord t at k
+unfolding pastWord
+word-passed t at size k w b = record { left = rw (w .left) (b .left); from = omega (arith, b .from); within = b .within }
 
-pub word-start : (t : List ℕ) (at : ℕ) → at ≤ length t → InWord t at at
-word-start t at p = record { left = refl; from = omega arith; within = p }
-
-module _ (t : List ℕ) (at i : ℕ) (inv : InWord t at i) where
-  pub word-over : length t ≤ i → PassesWord t at i
-  unfolding pastWord behind pastBlanks
-  word-over p =
-      let z : drop i t ≡ [] = drop-of-length-le t p in
-      let e : behind isLetter (drop at t) ≡ [] = sym (inv .left) ∙ rw z in
-      record { left = rw (e, z); from = inv .from; within = inv .within }
-
-  module _ (more : i < length t) (r : Bool) (told : r ≡ isLetter (getD t i 0)) where
-    pub word-behind : (k : ℕ) → not r ≡ true → Passes t i k → PassesWord t at k
-    unfolding pastWord behind pick
-    word-behind k p b =
-        let e : behind isLetter (drop i t) ≡ drop i t = rw (drop-next t i more, told-false r _ told p) in
-        let f : behind isLetter (drop at t) ≡ drop i t = sym (inv .left) ∙ e in
-        record { left = rw f (b .left); from = omega (arith, inv .from, b .from); within = b .within }
-
-    pub word-on : not r ≡ false → InWord t at (i + 1)
-    unfolding behind pick
-    word-on p =
-        let e : behind isLetter (drop (i + 1) t) ≡ behind isLetter (drop at t) = rw (drop-next t i more, told-true r _ told p) at (inv .left) in
-        record { left = e; from = omega (arith, inv .from); within = omega arith }
-
-    pub word-less : length t - (i + 1) < length t - i
-    word-less = omega arith
-
-pub ruleset wording = (word-start, word-over, word-behind, word-on, word-less, needs)
+pub ruleset wording = (word-passed, needs)
 
 -- ---- the words of a group
 
@@ -98,3 +69,60 @@ module _ (bs : List ℕ) where
 pub ruleset synchronies = (synchrony-loose, synchrony-tight, synchrony-none, needs)
 
 pub ruleset errors = (error-local, error-global, error-partial, error-causal, error-none, needs)
+
+module _ (v : ℕ) where
+  pub size-local : v ≡ 0 → 5 ≡ errorSize v
+  unfolding errorSize pick
+  size-local e = rw (eq-eqb v 0 e)
+
+  module _ (n : v ≡ 0 → ⊥) where
+    pub size-partial : v ≡ 2 → 7 ≡ errorSize v
+    unfolding errorSize pick
+    size-partial e = rw (ne-eqb v 0 n, eq-eqb v 2 e)
+
+    pub size-other : (v ≡ 2 → ⊥) → 6 ≡ errorSize v
+    unfolding errorSize pick
+    size-other e = rw (ne-eqb v 0 n, ne-eqb v 2 e)
+
+pub ruleset sizes = (size-local, size-partial, size-other, needs)
+
+-- ---- a word that was found stands there with all its letters
+
+module _ (t : List ℕ) (at : ℕ) (start : at ≤ length t) where
+  word-stands : (word : List ℕ) → isWord word (drop at t) ≡ true → Stands t at (length word)
+  word-stands word e =
+      let w = word-behind word (drop at t) e in
+      record { left = w .0 ∙ drop-drop (length word) at t; within = omega (arith, w .1, length-drop at t) }
+
+  module _ (s : Bool) (there : s ≡ true) where
+    pub event-stands : s ≡ isWord eventWord (drop at t) → Stands t at 5
+    event-stands told = word-stands eventWord (sym told ∙ there)
+
+    pub part-stands : s ≡ isWord partWord (drop at t) → Stands t at 4
+    part-stands told = word-stands partWord (sym told ∙ there)
+
+    pub send-stands : s ≡ isWord sendWord (drop at t) → Stands t at 4
+    send-stands told = word-stands sendWord (sym told ∙ there)
+
+    pub group-stands : s ≡ isWord groupWord (drop at t) → Stands t at 5
+    group-stands told = word-stands groupWord (sym told ∙ there)
+
+  pub synchrony-stands : (w : ℕ) → w ≡ synchronyAt (drop at t) → w < 2 → Stands t at 5
+  unfolding synchronyAt pick
+  synchrony-stands w told p = go (isWord looseWord (drop at t)) refl (isWord tightWord (drop at t)) refl told where
+    go : (a : Bool) → isWord looseWord (drop at t) ≡ a → (b : Bool) → isWord tightWord (drop at t) ≡ b → w ≡ pick a 0 (pick b 1 2) → Stands t at 5
+    go true e b f h = word-stands looseWord e
+    go false e true f h = word-stands tightWord f
+    go false e false f h = absurd (omega arith)
+
+  pub error-stands : (v size : ℕ) → v ≡ errorAt (drop at t) → v < 4 → size ≡ errorSize v → Stands t at size
+  unfolding errorAt errorSize pick
+  error-stands v size told p sized =
+      go (isWord localWord (drop at t)) refl (isWord globalWord (drop at t)) refl (isWord partialWord (drop at t)) refl (isWord causalWord (drop at t)) refl told where
+        go : (a : Bool) → isWord localWord (drop at t) ≡ a → (b : Bool) → isWord globalWord (drop at t) ≡ b → (c : Bool) → isWord partialWord (drop at t) ≡ c
+            → (d : Bool) → isWord causalWord (drop at t) ≡ d → v ≡ pick a 0 (pick b 1 (pick c 2 (pick d 3 4))) → Stands t at size
+        go true e b f c g d h z = let k : size ≡ 5 = rw z at sized in rw k (word-stands localWord e)
+        go false e true f c g d h z = let k : size ≡ 6 = rw z at sized in rw k (word-stands globalWord f)
+        go false e false f true g d h z = let k : size ≡ 7 = rw z at sized in rw k (word-stands partialWord g)
+        go false e false f false g true h z = let k : size ≡ 6 = rw z at sized in rw k (word-stands causalWord h)
+        go false e false f false g false h z = absurd (omega arith)

@@ -1,16 +1,28 @@
 -- What is asked of the functions that read a line: their answers in the words of the grammar.
-use Prim.Native.Nat.{ℕ, _<_, _≤_}
+use Prim.Native.Nat.{ℕ, _+_, _<_, _≤_}
 use mathlib.Core.Path.{_≡_}
 use mathlib.Core.Bool.{Bool, true, false}
 use mathlib.Core.List.{List}
 use lib.ListN.{length, drop}
-use Rattle.tokens.specs.Tokens.{Read, got, stop, label, isRead, bytesIn}
+use lib.Dec.{eqb}
+use Rattle.base.specs.Tests.{pick}
+use Rattle.tokens.specs.Bytes.{isLetter}
+use Rattle.tokens.specs.Tokens.{Read, got, stop, behind, label, isRead, bytesIn}
 use Rattle.tokens.specs.Beats.{field}
 use Rattle.text.specs.Words.{messageField, partField}
 use Rattle.text.specs.Grammar.{Line, heading, message, event, part, send, group, close, pastWord}
 use Rattle.script.specs.declared.Found.{Found}
 use Rattle.script.specs.declared.Found.the-variants.{Heading, Message, Event, Part, Send, Group, Close, Fault}
 use Rattle.script.specs.declared.Step.{Step}
+
+-- A word of this size stands here.
+pub record Stands (t : List ℕ) (at size : ℕ) : Type 0 where
+  pub left : behind isLetter (drop at t) ≡ drop (at + size) t
+  pub within : at + size ≤ length t
+
+-- How many letters the error word of this number has.
+unfoldable pub errorSize : ℕ → ℕ
+errorSize v = pick (eqb v 0) 5 (pick (eqb v 2) 7 6)
 
 -- What is left behind a word, and the blanks behind it.
 pub record PassesWord (t : List ℕ) (at r : ℕ) : Type 0 where

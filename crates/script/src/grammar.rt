@@ -59,7 +59,7 @@ fn listed(text: &[u8], at: usize, next: usize) -> Step
     ensures { λ r. ⌜ Lines (now (text .entry)) (line (Listing next) (drop at (now (text .entry)))) r ⌝ }
 {
     if is_word(b"event", text, at) {
-        let duration = past_word(text, at);
+        let duration = past_word(text, at, 5);
         return timed(text, duration);
     }
     entry(text, at, next)
@@ -71,11 +71,11 @@ fn divided(text: &[u8], at: usize) -> Step
     ensures { λ r. ⌜ Lines (now (text .entry)) (line Timed (drop at (now (text .entry)))) r ⌝ }
 {
     if is_word(b"event", text, at) {
-        let duration = past_word(text, at);
+        let duration = past_word(text, at, 5);
         return timed(text, duration);
     }
     if is_word(b"part", text, at) {
-        let number = past_word(text, at);
+        let number = past_word(text, at, 4);
         return parted(text, number);
     }
     fault(at)
@@ -87,11 +87,11 @@ fn played(text: &[u8], at: usize) -> Step
     ensures { λ r. ⌜ Lines (now (text .entry)) (line (Playing 0) (drop at (now (text .entry)))) r ⌝ }
 {
     if is_word(b"event", text, at) {
-        let duration = past_word(text, at);
+        let duration = past_word(text, at, 5);
         return timed(text, duration);
     }
     if is_word(b"part", text, at) {
-        let number = past_word(text, at);
+        let number = past_word(text, at, 4);
         return parted(text, number);
     }
     item(text, at)

@@ -8,6 +8,7 @@ use crate::Found;
 use crate::Step;
 use crate::steps::fault;
 use crate::words::error_at;
+use crate::words::error_size;
 use crate::words::past_word;
 use crate::words::synchrony_at;
 use tokens::beats;
@@ -76,7 +77,8 @@ fn erring(text: &[u8], at: usize, delay: u64, synchrony: u64) -> Step
     if ERRORS <= error {
         return opened(text, at, delay, synchrony, 0);
     }
-    let brace = past_word(text, at);
+    let size = error_size(error);
+    let brace = past_word(text, at, size);
     opened(text, brace, delay, synchrony, error)
 }
 
@@ -89,7 +91,7 @@ fn grouped(text: &[u8], at: usize, delay: u64) -> Step
     if SYNCHRONIES <= synchrony {
         return erring(text, at, delay, 0);
     }
-    let word = past_word(text, at);
+    let word = past_word(text, at, 5);
     erring(text, word, delay, synchrony)
 }
 
@@ -99,11 +101,11 @@ fn action(text: &[u8], at: usize, delay: u64) -> Step
     ensures { λ r. ⌜ Lines (now (text .entry)) (action delay (drop at (now (text .entry)))) r ⌝ }
 {
     if is_word(b"send", text, at) {
-        let next = past_word(text, at);
+        let next = past_word(text, at, 4);
         return sent(text, next, delay);
     }
     if is_word(b"group", text, at) {
-        let next = past_word(text, at);
+        let next = past_word(text, at, 5);
         return grouped(text, next, delay);
     }
     fault(at)

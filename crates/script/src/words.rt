@@ -3,25 +3,16 @@ ghost use mathlib.Core.Path.{_≡_};
 ghost use Prim.Native.Nat.{_≤_};
 ghost use lib.ListN.{length, drop};
 ghost use Rattle.text.specs.Grammar.{synchronyAt, errorAt};
-ghost use Rattle.script.specs.Steps.{PassesWord};
-use tokens::is_letter;
+ghost use Rattle.script.specs.Steps.{Stands, PassesWord, errorSize};
 use tokens::is_word;
 use tokens::past_blanks;
 
-// The first byte behind the word at `at` and the blanks behind it.
-pub fn past_word(text: &[u8], at: usize) -> usize
-    requires { ⌜ at ≤ length (now text) ⌝ }
+// The first byte behind the word of this size at `at` and the blanks behind it.
+pub fn past_word(text: &[u8], at: usize, size: usize) -> usize
+    requires { ⌜ Stands (now text) at size ⌝ }
     ensures { λ r. ⌜ PassesWord (now (text .entry)) at r ⌝ }
 {
-    let mut i = at;
-    while i < text.len() {
-        let b = text[i];
-        if !is_letter(b) {
-            return past_blanks(text, i);
-        }
-        i += 1;
-    }
-    i
+    past_blanks(text, at + size)
 }
 
 // "synchrony (0 loose, 1 tight)"; 2 where neither stands.
@@ -56,4 +47,17 @@ pub fn error_at(text: &[u8], at: usize) -> u64
         return 3;
     }
     4
+}
+
+// How many letters an error word has.
+pub fn error_size(error: u64) -> usize
+    ensures { λ r. ⌜ r ≡ errorSize error ⌝ }
+{
+    if error == 0 {
+        return 5;
+    }
+    if error == 2 {
+        return 7;
+    }
+    6
 }

@@ -13,4 +13,5 @@ erring-spec =
     (λ c. search erroring)
     (λ c κs. search erroring)
     (λ c κs. search erroring)
+    (λ c κs. search erroring)
     (λ c. search erroring))
