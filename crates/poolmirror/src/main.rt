@@ -21,6 +21,9 @@ const FILE_ROOM: usize = 65536;
 // The longest text that is read from here, and one byte more: sixteen times what any score needs.
 const TEXT_ROOM: usize = 4194305;
 
+// Room for the text of any score.
+const WRITTEN_ROOM: usize = writer::TEXT_ROOM;
+
 // Room for any line, with a name of any length in it, and for any page of words.
 const LINE_ROOM: usize = 8192;
 
@@ -318,38 +321,68 @@ fn read_score(name: &[u8], text: &[u8], made: &mut [u8], m: usize, out: &mut [u8
     settle(out, n, made, m, &room, t)
 }
 
-// `read TEXT FILE`: the text is read whole before anything is written.
-fn read(o: Order, name: &mut [u8], made: &mut [u8], out: &mut [u8]) -> Ending
+// The text is read whole before anything is written. One that fills the room is longer than there is room for.
+fn read_named_text(
+    o: Order,
+    name: &mut [u8],
+    made: &mut [u8],
+    text: &mut [u8],
+    out: &mut [u8],
+) -> Ending
     requires { ⌜ (length (now name) ≡ 4096) × (length (now made) ≡ 4096) × (8192 ≤ length (now out)) ⌝ }
 {
-    let mut text = [0u8; TEXT_ROOM];
     let from = 0;
     let names = o.names;
     let n = read_argument(names.first, name);
     let m = read_argument(names.second, made);
-    let got = read_named(&name[from..n], &mut text);
+    let got = read_named(&name[from..n], text);
     let shown = orders::show(name, n);
     if got.error != 0 {
         return unread(&name[from..shown], got.error);
     }
     let size = got.count;
-    if TEXT_ROOM <= size {
+    if text.len() <= size {
         return unread(&name[from..shown], libc::EFBIG);
     }
     read_score(&name[from..shown], &text[from..size], made, m, out)
 }
 
-fn write_score(name: &[u8], file: &[u8], made: &mut [u8], m: usize, out: &mut [u8]) -> Ending
-    requires { ⌜ (length (now name) ≤ 4096) × (m ≤ length (now made)) × (length (now made) ≡ 4096) × (8192 ≤ length (now out)) ⌝ }
-{
-    let mut room = [0u8; writer::TEXT_ROOM];
-    let t = writer::write_text(file, &mut room);
-    let n = transcribing::write_line(out, name, file, t);
-    settle(out, n, made, m, &room, t)
+fn read_into(o: Order, text: &mut [u8]) -> Ending {
+    let mut name = [0u8; PATH_MAX];
+    let mut made = [0u8; PATH_MAX];
+    let mut out = [0u8; LINE_ROOM];
+    read_named_text(o, &mut name, &mut made, text, &mut out)
 }
 
-// `write FILE TEXT`
-fn write(o: Order, name: &mut [u8], made: &mut [u8], file: &mut [u8], out: &mut [u8]) -> Ending
+// `read TEXT FILE`. The text's room stands in a function of its own: its length is proved by a law, since to count it would be too much.
+fn read(o: Order) -> Ending {
+    let mut text = [0u8; TEXT_ROOM];
+    read_into(o, &mut text)
+}
+
+fn write_score(
+    name: &[u8],
+    file: &[u8],
+    made: &mut [u8],
+    m: usize,
+    room: &mut [u8],
+    out: &mut [u8],
+) -> Ending
+    requires { ⌜ (length (now name) ≤ 4096) × (m ≤ length (now made)) × (length (now made) ≡ 4096) × (8192 ≤ length (now out)) ⌝ }
+{
+    let t = writer::write_text(file, room);
+    let n = transcribing::write_line(out, name, file, t);
+    settle(out, n, made, m, room, t)
+}
+
+fn write_named_score(
+    o: Order,
+    name: &mut [u8],
+    made: &mut [u8],
+    file: &mut [u8],
+    room: &mut [u8],
+    out: &mut [u8],
+) -> Ending
     requires { ⌜ (length (now name) ≡ 4096) × (length (now made) ≡ 4096) × (8192 ≤ length (now out)) ⌝ }
 {
     let from = 0;
@@ -362,7 +395,15 @@ fn write(o: Order, name: &mut [u8], made: &mut [u8], file: &mut [u8], out: &mut 
         return unread(&name[from..shown], got.error);
     }
     let size = got.count;
-    write_score(&name[from..shown], &file[from..size], made, m, out)
+    write_score(&name[from..shown], &file[from..size], made, m, room, out)
+}
+
+// `write FILE TEXT`
+fn write(o: Order, name: &mut [u8], made: &mut [u8], file: &mut [u8], out: &mut [u8]) -> Ending
+    requires { ⌜ (length (now name) ≡ 4096) × (length (now made) ≡ 4096) × (8192 ≤ length (now out)) ⌝ }
+{
+    let mut room = [0u8; WRITTEN_ROOM];
+    write_named_score(o, name, made, file, &mut room, out)
 }
 
 // ---- words
@@ -404,7 +445,7 @@ fn carry_out(o: Order, arg: &mut [u8], out: &mut [u8]) -> Ending
     match c {
         Command::Check => check(arg, &mut file, out),
         Command::Play => play(o, arg, &mut list, &mut file, out),
-        Command::Read => read(o, arg, &mut list, out),
+        Command::Read => read(o),
         Command::Write => write(o, arg, &mut list, &mut file, out),
         Command::Replies => replies(out),
         Command::Help => help(out),
