@@ -11,7 +11,6 @@ use Rattle.page.specs.declared.Item.{Item}
 use Rattle.contents.specs.Limits.{itemSize}
 use Rattle.contents.specs.Bytes.{u16At}
 use Rattle.score.specs.Encode.{le16, le32, itemBytes}
-use Rattle.score.proofs.EncodingPieces.{items-size}
 use Rattle.filing.specs.Lasts.{withLast, lastOf, setLast, lastAt, Replaced}
 
 -- ---- the bytes around an item's last field

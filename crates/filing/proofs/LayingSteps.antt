@@ -1,22 +1,20 @@
 -- Each number, item, entry and file is laid as its parts are, one behind the other.
 -- Assumes nothing.
-use mathlib.Core.Path.{_≡_, refl, sym, ap, _∙_}
+use mathlib.Core.Path.{_≡_}
 use mathlib.Core.List.{List, [], _∷_, _++_, append-assoc}
 use Prim.Native.Nat.{ℕ, _+_, _*_, _/_, _%_, _<_}
 use native.Mathlib.Omega.{arith}
-use lib.ListN.{length}
 use borrow.Author.Needs.{needs}
 use Rattle.ascii.specs.Laying.{Laid}
 use Rattle.ascii.proofs.LayLaws.{laid-join}
 use Rattle.page.specs.declared.Item.{Item}
 use Rattle.contents.specs.declared.Counts.{Counts}
-use Rattle.contents.specs.Limits.{contentsSize, eventSize, itemSize, messageSize}
+use Rattle.contents.specs.Limits.{itemSize}
 use Rattle.contents.specs.Bytes.{u16At}
 use Rattle.contents.specs.Contents.{eventsAt, itemsAt, messagesAt, textAt}
-use Rattle.contents.specs.Inner.{Counted}
 use Rattle.score.specs.Encode.{le16, le32, contentsBytes, itemBytes}
 use Rattle.filing.specs.Lasts.{lastAt, Replaced}
-use Rattle.filing.specs.Pieces.{entryOf, bodyOf, filed, Filable}
+use Rattle.filing.specs.Pieces.{entryOf, bodyOf, filed}
 
 -- ---- two behind one another
 

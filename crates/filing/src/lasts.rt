@@ -1,5 +1,4 @@
 // The last field of an item that stands in lent bytes.
-ghost use mathlib.Core.Path.{_≡_};
 ghost use Prim.Native.Nat.{_+_, _*_, _≤_, _<_};
 ghost use lib.ListN.{length};
 ghost use Rattle.contents.specs.Limits.{itemSize};

@@ -4,3 +4,4 @@ pub mod TurnSteps
 pub mod ListSteps
 pub mod PageSteps
 pub mod MakeSteps
+pub mod OneOutcome

@@ -2,8 +2,8 @@
 -- Assumes nothing.
 use mathlib.Core.Path.{_≡_, refl, sym, ap, _∙_}
 use mathlib.Core.Bool.{Bool, true, false, not}
-use mathlib.Core.List.{List, [], _∷_, _++_, append-assoc, append-nil}
-use Prim.Native.Nat.{ℕ, zero, suc, _+_, _-_, _*_, _<_, _≤_}
+use mathlib.Core.List.{List, [], _++_, append-assoc, append-nil}
+use Prim.Native.Nat.{ℕ, suc, _+_, _*_, _<_, _≤_}
 use native.Mathlib.Numerals.{add-one}
 use native.Mathlib.Omega.{arith}
 use lib.ListN.{length, take, drop, length-append}
@@ -16,7 +16,7 @@ use Rattle.score.specs.Encode.{le16, entryBytes, textBytes, countsIn}
 use Rattle.filing.specs.Pieces.{entryOf}
 use Rattle.text.specs.declared.Stage.{Stage}
 use Rattle.text.specs.declared.Stage.the-variants.{Start, Listing, Timed, Playing}
-use Rattle.text.specs.Grammar.{Line, heading, message, event, part, send, group, close, after, further, mayEnd, Script, done, more, script}
+use Rattle.text.specs.Grammar.{Line, heading, message, after, further, mayEnd, Script, done, more, script}
 use Rattle.text.specs.Said.{labelsOf, durationsOf, itemsOf, pieceOf}
 use Rattle.script.specs.declared.Found.{Found}
 use Rattle.script.specs.declared.Found.the-variants.{Heading, Message, Event, Part, Send, Group, Close, Fault}
@@ -25,7 +25,7 @@ use Rattle.script.specs.Stages.{held}
 use Rattle.script.specs.Balanced.{BeforeEvent, behind-list, behind-event, behind-items, BeforePart, first-part, next-part, Balanced, ends, heads, lists, times, parts, sends, opens, closes}
 use Rattle.reader.specs.declared.turns.Turn.{Turn}
 use Rattle.reader.specs.declared.listing.Label.{Label}
-use Rattle.reader.specs.Turns.{Turnable, Turned, Turns, noLabel, labelIn}
+use Rattle.reader.specs.Turns.{Turnable, Turns, noLabel, labelIn}
 use Rattle.reader.specs.Filled.{Tellable, Headed, Begun, ListRoom, Listed}
 use Rattle.reader.proofs.TurnSteps.{turn-less}
 

@@ -2,14 +2,14 @@
 -- Assumes nothing.
 use mathlib.Core.Path.{_≡_, refl, sym, ap, _∙_}
 use mathlib.Core.List.{List, [], _∷_, _++_}
-use Prim.Native.Nat.{ℕ, _+_, _-_, _*_, _<_, _≤_}
+use Prim.Native.Nat.{ℕ, _-_, _*_, _<_, _≤_}
 use native.Mathlib.Omega.{arith}
 use lib.ListN.{length, take, drop, take-append-drop}
 use lib.Seq.{length-take-le}
 use borrow.Author.Tests.{le-leb, lt-leb}
 use borrow.Author.Needs.{needs}
 use Rattle.base.specs.Tests.{pick, every, between}
-use Rattle.base.specs.Checks.{fine, refused, need, firstFault}
+use Rattle.base.specs.Checks.{Check, fine, refused, need, firstFault}
 use Rattle.ascii.specs.Laying.{Laid}
 use Rattle.tokens.specs.declared.Place.{Place}
 use Rattle.tokens.specs.Places.{placeBehind}
@@ -17,7 +17,7 @@ use Rattle.contents.specs.declared.Counts.{Counts}
 use Rattle.contents.specs.declared.Fault.{Fault}
 use Rattle.contents.specs.declared.Verdict.{Verdict}
 use Rattle.contents.specs.declared.Verdict.the-variants.{Fine, Refused}
-use Rattle.contents.specs.Limits.{contentsSize, eventSize, itemSize, messageSize, mostEvents, mostItems, mostMessages, mostText}
+use Rattle.contents.specs.Limits.{eventSize, itemSize, messageSize, mostEvents, mostItems, mostMessages, mostText}
 use Rattle.contents.specs.Contents.{countsRight}
 use Rattle.contents.specs.Inner.{Counted}
 use Rattle.contents.specs.Replies.{verdictOf}
@@ -28,17 +28,17 @@ use Rattle.score.specs.Encode.{countsIn, encode}
 use Rattle.score.specs.File.{checked}
 use Rattle.score.proofs.EncodingPieces.{size-encode}
 use Rattle.filing.specs.Pieces.{filed, Filable}
-use Rattle.text.specs.declared.Stage.the-variants.{Start, Listing}
+use Rattle.text.specs.declared.Stage.the-variants.{Start}
 use Rattle.text.specs.declared.Transcript.{Transcript}
 use Rattle.text.specs.declared.Transcript.the-variants.{Made, NoRoom, BadText, BadFile}
 use Rattle.text.specs.Grammar.{Script, done, more, fault, script}
-use Rattle.text.specs.Said.{labelsOf, durationsOf, itemsOf, pieceOf, Reading, piece, unread, told, said}
+use Rattle.text.specs.Said.{pieceOf, Reading, piece, unread, told, said}
 use Rattle.text.specs.Transcripts.{roomLeft, fileRoom, pieceRight, judged, faultAt, answered, fileOf, readAnswer}
 use Rattle.script.specs.declared.Tally.{Tally}
 use Rattle.script.specs.declared.Tally.the-variants as tally
 use Rattle.script.specs.Tallies.{tallyOf}
 use Rattle.script.proofs.BalancedLaws.{counted-balanced, counted-said, counts-said}
-use Rattle.reader.specs.Filled.{Tellable, Begun, ListRoom, Listed, PageRoom, Paged, Bodies, fileIn, Writable, Sayable, Answers}
+use Rattle.reader.specs.Filled.{Begun, Listed, Paged, Bodies, fileIn, Writable, Settles, Sayable, Answers}
 
 -- ---- the bodies and the file
 
@@ -102,13 +102,27 @@ counts-right c k =
       le-leb (c .text) mostText (k .text),
     )
 
--- what is laid from the front on stands there alone
-front-is : (o n bs : List ℕ) (r : ℕ) → Laid o 0 bs n r → take r n ≡ bs
-front-is o n bs r laid = laid .front
-
--- and what stands behind it stays
+-- what is laid from the front on stands there, and what stands behind it stays
 room-is : (o n bs : List ℕ) (r : ℕ) → Laid o 0 bs n r → n ≡ bs ++ drop r o
-room-is o n bs r laid = sym (take-append-drop r n) ∙ rw (laid .others) (ap (λ (l : List ℕ). l ++ drop r o) (front-is o n bs r laid))
+room-is o n bs r laid = sym (take-append-drop r n) ∙ rw (laid .others) (ap (λ (l : List ℕ). l ++ drop r o) (laid .front))
+
+last-told : (w : Check Fault) → firstFault (w ∷ []) ≡ w
+unfolding firstFault
+last-told fine = refl
+last-told (refused x) = refl
+
+module _ (f m : List ℕ) (v : Verdict) (e : v ≡ verdictOf (checked f)) where
+  pub settle-refused : (x : Fault) → v ≡ Refused x → Settles f m m (BadFile x)
+  unfolding judged roomLeft
+  settle-refused x p = record { answer = rw (verdict-refused (checked f) v x e p); left = refl }
+
+  pub settle-made : v ≡ Fine → (m′ : List ℕ) (r : ℕ) → Laid m 0 f m′ r → Settles f m m′ (Made (length f))
+  unfolding judged roomLeft
+  settle-made p m′ r put =
+      let n : r ≡ length f = omega (arith, put .stop) in
+      record { answer = rw (verdict-fine (checked f) v e p); left = rw n at (room-is m m′ f r put) }
+
+pub ruleset settles = (settle-refused, settle-made, needs)
 
 module _ (t : List ℕ) (c : Counts) (m : List ℕ) (asked : Sayable t c m) where
   says-counts : countsRight (countsIn (pieceOf (script Start t))) ≡ countsRight c
@@ -123,9 +137,9 @@ module _ (t : List ℕ) (c : Counts) (m : List ℕ) (asked : Sayable t c m) wher
   pub make-asked : Counted c → (file : List ℕ) → fileRoom ≤ length file → Writable t c file
   make-asked k file r = record { told = record { balanced = asked .balanced; counted = rw (asked .counts) at k }; counts = asked .counts; room = r }
 
-  -- the room holds the largest file
-  pub put-room : Counted c → (file file′ : List ℕ) (size : ℕ) → Laid file 0 (encode (pieceOf (script Start t))) file′ size → 0 + length (take size file′) ≤ length m
-  put-room k file file′ size laid =
+  -- room for the largest file holds it
+  pub put-room : Counted c → (file file′ o : List ℕ) (size : ℕ) → Laid file 0 (encode (pieceOf (script Start t))) file′ size → fileRoom ≤ length o → length (take size file′) ≤ length o
+  put-room k file file′ o size laid r =
       let k′ : Counted (countsIn (pieceOf (script Start t))) = rw (asked .counts) at k in
       omega (
         arith,
@@ -136,34 +150,21 @@ module _ (t : List ℕ) (c : Counts) (m : List ℕ) (asked : Sayable t c m) wher
         k′ .items,
         k′ .messages,
         k′ .text,
-        asked .room,
       )
 
-  module _ (v : Verdict) (file file′ : List ℕ) (size : ℕ) (laid : Laid file 0 (encode (pieceOf (script Start t))) file′ size) (e : v ≡ verdictOf (checked (take size file′))) where
-    stands : take size file′ ≡ encode (pieceOf (script Start t))
-    stands = laid .front
+  module _ (k : Counted c) (file file′ : List ℕ) (size : ℕ) (laid : Laid file 0 (encode (pieceOf (script Start t))) file′ size) where
+    fine-counts : countsRight (countsIn (pieceOf (script Start t))) ≡ fine
+    fine-counts = counts-right (countsIn (pieceOf (script Start t))) (rw (asked .counts) at k)
 
-    fine-counts : Counted c → countsRight (countsIn (pieceOf (script Start t))) ≡ fine
-    fine-counts k = counts-right (countsIn (pieceOf (script Start t))) (rw (asked .counts) at k)
+    pub file-told : (m′ : List ℕ) (r : Transcript) → Settles (take size file′) m m′ r → Answers t m m′ r
+    unfolding answered pieceRight firstFault fileOf
+    file-told m′ r s =
+        let f : take size file′ ≡ encode (pieceOf (script Start t)) = laid .front in
+        let a : r ≡ judged (encode (pieceOf (script Start t))) (checked (encode (pieceOf (script Start t)))) = rw f at (s .answer) in
+        let b : m′ ≡ roomLeft r (encode (pieceOf (script Start t))) m = rw f at (s .left) in
+        record { answer = rw (asked .says, fine-counts, last-told (checked (encode (pieceOf (script Start t))))) a; left = rw (asked .says) b }
 
-    pub file-refused : Counted c → (x : Fault) → v ≡ Refused x → Answers t m m (BadFile x)
-    unfolding answered pieceRight firstFault judged roomLeft
-    file-refused k x p =
-        let z : checked (encode (pieceOf (script Start t))) ≡ refused x = rw stands at (verdict-refused (checked (take size file′)) v x e p) in
-        record { answer = rw (asked .says, fine-counts k, z); left = refl }
-
-    pub file-made : Counted c → v ≡ Fine → (m′ : List ℕ) (r : ℕ) → Laid m 0 (take size file′) m′ r → Answers t m m′ (Made size)
-    unfolding answered pieceRight firstFault judged roomLeft fileOf
-    file-made k p m′ r put =
-        let z : checked (encode (pieceOf (script Start t))) ≡ fine = rw stands at (verdict-fine (checked (take size file′)) v e p) in
-        let n : size ≡ length (encode (pieceOf (script Start t))) = omega (arith, laid .stop) in
-        let l : length (take size file′) ≡ size = length-take-le size file′ (laid .within) in
-        let q : r ≡ size = omega (arith, put .stop) in
-        let w : m′ ≡ take size file′ ++ drop r m = room-is m m′ (take size file′) r put in
-        let w′ : m′ ≡ encode (pieceOf (script Start t)) ++ drop size m = rw (stands, q) at w in
-        record { answer = rw (asked .says, fine-counts k, z, ← n); left = rw (asked .says) w′ }
-
-pub ruleset makes = (make-asked, put-room, file-refused, file-made, length-take-le, needs)
+pub ruleset makes = (make-asked, put-room, file-told, length-take-le, needs)
 
 pub ruleset judges = (count-refused, counts-told, needs)
 
@@ -227,9 +228,3 @@ module _ (t m : List ℕ) where
     left-told = a .left
 
 pub ruleset readings = (read-short, left-short, fault-within, read-fault, left-fault, read-asked, read-told, left-told, needs)
-
--- ---- no second outcome
-
-pub one-outcome : (t m new other : List ℕ) (r s : Transcript) → r ≡ readAnswer (length m) t → new ≡ roomLeft r (fileOf (said t)) m → s ≡ readAnswer (length m) t
-    → other ≡ roomLeft s (fileOf (said t)) m → (r ≡ s) × (new ≡ other)
-one-outcome t m new other r s a b c d = (a ∙ sym c, cc)

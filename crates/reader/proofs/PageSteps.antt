@@ -2,7 +2,7 @@
 -- durations, what is laid and what is owed are together those of all.
 -- Assumes nothing.
 use mathlib.Core.Path.{_≡_, refl, sym, ap, _∙_}
-use mathlib.Core.Bool.{Bool, true, false}
+use mathlib.Core.Bool.{true, false}
 use mathlib.Core.List.{List, [], _∷_, _++_, append-nil}
 use Prim.Native.Nat.{ℕ, zero, suc, _+_, _-_, _*_, _<_, _≤_}
 use native.Mathlib.Numerals.{add-one}
@@ -19,19 +19,18 @@ use Rattle.filing.specs.Pieces.{Fitting}
 use Rattle.filing.specs.Lasts.{lastOf, setLast, Replaced}
 use Rattle.filing.proofs.LastLaws.{last-replaced, last-stood, item-added}
 use Rattle.text.specs.declared.Stage.{Stage}
-use Rattle.text.specs.declared.Stage.the-variants.{Start, Listing, Timed, Playing}
-use Rattle.text.specs.Grammar.{Line, heading, message, event, part, send, group, close, after, further, deeper, shallower, Script, done, more, script}
-use Rattle.text.specs.Said.{within, eventOf, durationsOf, itemsOf, pieceOf}
-use Rattle.script.specs.declared.Found.{Found}
+use Rattle.text.specs.declared.Stage.the-variants.{Start, Listing}
+use Rattle.text.specs.Grammar.{Line, heading, message, event, part, send, group, close, after, further, deeper, shallower, Script, more, script}
+use Rattle.text.specs.Said.{eventOf, durationsOf, itemsOf, pieceOf}
 use Rattle.script.specs.declared.Found.the-variants.{Heading, Message, Event, Part, Send, Group, Close, Fault}
 use Rattle.script.specs.Steps.{lineIn, isFault, Fits, fits-event, fits-part, fits-send, fits-group}
 use Rattle.script.specs.Stages.{held}
-use Rattle.script.specs.Balanced.{BeforeEvent, behind-list, behind-event, behind-items, BeforePart, first-part, next-part, Balanced, ends, heads, lists, times, parts, sends, opens, closes}
+use Rattle.script.specs.Balanced.{Balanced, heads, lists, times, parts, opens, closes}
 use Rattle.reader.specs.declared.turns.Turn.{Turn}
 use Rattle.reader.specs.Items.{sendItem, groupItem}
-use Rattle.reader.specs.Turns.{Turnable, Turned, Turns}
+use Rattle.reader.specs.Turns.{Turnable, Turns}
 use Rattle.reader.specs.Filled.{Tellable, Begun, PageRoom, RowRoom, Paged}
-use Rattle.reader.proofs.RunLaws.{openIn, event-none, part-none, set-length, Chain, root, link, chain-within, chain-append, chain-set, chain-open, less, run, run-page}
+use Rattle.reader.proofs.RunLaws.{openIn, event-none, part-none, set-length, Chain, root, link, chain-append, chain-set, chain-open, less, run, run-page}
 use Rattle.reader.proofs.TurnSteps.{turn-less}
 use Rattle.reader.proofs.ListSteps.{owed-laid}
 

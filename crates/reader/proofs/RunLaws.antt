@@ -11,7 +11,7 @@ use borrow.Author.Tests.{eqb-true}
 use Rattle.page.specs.declared.Item.{Item}
 use Rattle.text.specs.declared.Stage.{Stage}
 use Rattle.text.specs.declared.Stage.the-variants.{Start, Listing, Timed, Playing}
-use Rattle.text.specs.Grammar.{Line, heading, message, event, part, send, group, close, mayEnd, Script, done, more, fault}
+use Rattle.text.specs.Grammar.{heading, message, event, part, send, group, close, mayEnd, Script, done, more, fault}
 use Rattle.text.specs.Said.{within, eventOf, itemsOf}
 use Rattle.script.specs.Balanced.{BeforeEvent, behind-list, behind-event, behind-items, BeforePart, first-part, next-part, Balanced, ends, heads, lists, times, parts, sends, opens, closes}
 use Rattle.filing.specs.Lasts.{withLast, lastOf, setLast}

@@ -1,6 +1,6 @@
 -- What a line that was read says of a text that has no fault, in the code's own terms.
 -- Assumes nothing.
-use mathlib.Core.Path.{_≡_, refl, sym, ap, _∙_}
+use mathlib.Core.Path.{_≡_, refl, sym, _∙_}
 use mathlib.Core.Bool.{Bool, true, false}
 use mathlib.Core.List.{List}
 use Prim.Native.Nat.{ℕ, suc, _+_, _-_, _<_, _≤_, _^_}
@@ -9,7 +9,7 @@ use lib.ListN.{length, drop}
 use borrow.Author.Needs.{needs}
 use Rattle.tokens.specs.Asked.{Passes}
 use Rattle.text.specs.declared.Stage.{Stage}
-use Rattle.text.specs.Grammar.{Line, line, after, further, deeper, shallower, isOver, Script, done, more, fault, script}
+use Rattle.text.specs.Grammar.{Line, line, after, further, deeper, shallower, isOver, Script, more, fault, script}
 use Rattle.script.specs.declared.Found.the-variants.{Close}
 use Rattle.script.specs.declared.Step.{Step}
 use Rattle.script.specs.Steps.{lineIn, isFault, Lines}
@@ -18,7 +18,7 @@ use Rattle.script.specs.Balanced.{Balanced, ends, heads, lists, times, parts, s
 use Rattle.script.proofs.StageSteps.{after-line, held-after}
 use Rattle.script.proofs.ScriptSteps.{found-line, script-over, script-fault, script-more, line-on}
 use Rattle.reader.specs.declared.turns.Turn.{Turn}
-use Rattle.reader.specs.Turns.{Turnable, Turned, Turns}
+use Rattle.reader.specs.Turns.{Turnable, Turns}
 
 -- ---- lines without a fault
 

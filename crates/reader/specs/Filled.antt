@@ -8,13 +8,14 @@ use Rattle.contents.specs.declared.Counts.{Counts}
 use Rattle.contents.specs.Limits.{eventSize, itemSize, messageSize, mostEvents, mostItems, mostMessages, mostText}
 use Rattle.contents.specs.Inner.{Counted}
 use Rattle.score.specs.Encode.{durationBytes, itemBytes, entryBytes, textBytes, countsIn}
+use Rattle.score.specs.File.{checked}
 use Rattle.filing.specs.Pieces.{filed}
 use Rattle.script.specs.Balanced.{Balanced}
 use Rattle.text.specs.declared.Stage.the-variants.{Start, Listing}
-use Rattle.text.specs.Grammar.{Script, script}
+use Rattle.text.specs.Grammar.{script}
 use Rattle.text.specs.declared.Transcript.{Transcript}
 use Rattle.text.specs.Said.{labelsOf, durationsOf, itemsOf, pieceOf, piece, said}
-use Rattle.text.specs.Transcripts.{fileRoom, answered, roomLeft, fileOf}
+use Rattle.text.specs.Transcripts.{fileRoom, judged, answered, roomLeft, fileOf}
 use Rattle.reader.specs.Turns.{Turnable}
 
 -- The text has no fault, and no more of anything than a file may have.
@@ -87,6 +88,11 @@ pub record Writable (t : List ℕ) (c : Counts) (out : List ℕ) : Type 0 where
   pub room : fileRoom ≤ length out
 
 -- ---- the answer
+
+-- What is told of a file, and what then stands in the room.
+pub record Settles (f m new : List ℕ) (r : Transcript) : Type 0 where
+  pub answer : r ≡ judged f (checked f)
+  pub left : new ≡ roomLeft r f m
 
 -- The text says the piece of its lines, these are its counts, and there is room for a file.
 pub record Sayable (t : List ℕ) (c : Counts) (m : List ℕ) : Type 0 where

@@ -1,11 +1,11 @@
 -- One line of a text that has no fault, and what may stand behind it.
 use Prim.Native.Nat.{ℕ, _<_, _≤_}
 use mathlib.Core.Path.{_≡_}
-use mathlib.Core.Bool.{Bool, true, false}
+use mathlib.Core.Bool.{true, false}
 use mathlib.Core.List.{List}
 use lib.ListN.{length, drop}
 use Rattle.text.specs.declared.Stage.{Stage}
-use Rattle.text.specs.Grammar.{after, Script, done, more, script}
+use Rattle.text.specs.Grammar.{after, done, more, script}
 use Rattle.script.specs.declared.Found.{Found}
 use Rattle.script.specs.declared.Found.the-variants.{Heading, Message, Event, Part, Send, Group, Close, Fault}
 use Rattle.script.specs.Steps.{lineIn, isFault, Fits}

@@ -8,9 +8,9 @@ ghost use Rattle.score.specs.Encode.{encode};
 ghost use Rattle.text.specs.declared.Stage.the-variants.{Start};
 ghost use Rattle.text.specs.Grammar.{script};
 ghost use Rattle.text.specs.Said.{pieceOf};
-ghost use Rattle.text.specs.Transcripts.{faultAt};
+ghost use Rattle.text.specs.Transcripts.{fileRoom, faultAt};
 ghost use Rattle.contents.specs.Inner.{Counted};
-ghost use Rattle.reader.specs.Filled.{Bodies, fileIn, Writable, Sayable, Answers};
+ghost use Rattle.reader.specs.Filled.{Bodies, fileIn, Writable, Settles, Sayable, Answers};
 use crate::listing::fill_list;
 use crate::paging::fill_page;
 use ascii::put_bytes;
@@ -76,21 +76,28 @@ fn write_file(text: &[u8], c: Counts, out: &mut [u8]) -> usize
     join(out, c, &durations, &items, &entries, &labels)
 }
 
-// A text whose counts are right: its file is checked before the room is touched.
-fn make(text: &[u8], c: Counts, room: &mut [u8]) -> Transcript
-    requires { ⌜ Sayable (now text) c (now room) × Counted c ⌝ }
-    ensures { λ r. ⌜ Answers (now (text .entry)) (now (room .entry)) (now (room .exit)) r ⌝ }
+// The file in the room, where it is right.
+fn settle(file: &[u8], room: &mut [u8]) -> Transcript
+    requires { ⌜ length (now file) ≤ length (now room) ⌝ }
+    ensures { λ r. ⌜ Settles (now (file .entry)) (now (room .entry)) (now (room .exit)) r ⌝ }
 {
-    let mut file = [0; FILE_ROOM];
-    let size = write_file(text, c, &mut file);
-    let checked = check_file(&file[..size]);
+    let checked = check_file(file);
     match checked {
         Verdict::Fine => {
-            put_bytes(room, 0, &file[..size]);
-            Transcript::Made { size }
+            put_bytes(room, 0, file);
+            Transcript::Made { size: file.len() }
         }
         Verdict::Refused(fault) => Transcript::BadFile { fault },
     }
+}
+
+// A text whose counts are right: its file is made elsewhere, and the room is touched only where it is right.
+fn make(text: &[u8], c: Counts, file: &mut [u8], room: &mut [u8]) -> Transcript
+    requires { ⌜ Sayable (now text) c (now room) × Counted c × (fileRoom ≤ length (now file)) ⌝ }
+    ensures { λ r. ⌜ Answers (now (text .entry)) (now (room .entry)) (now (room .exit)) r ⌝ }
+{
+    let size = write_file(text, c, file);
+    settle(&file[..size], room)
 }
 
 // A text without a fault. "a text past a count limit then gets the 4 its file would"
@@ -100,7 +107,10 @@ pub fn judge(text: &[u8], c: Counts, room: &mut [u8]) -> Transcript
 {
     let counted = check_counts(c);
     match counted {
-        Verdict::Fine => make(text, c, room),
+        Verdict::Fine => {
+            let mut file = [0; FILE_ROOM];
+            make(text, c, &mut file, room)
+        }
         Verdict::Refused(fault) => Transcript::BadFile { fault },
     }
 }

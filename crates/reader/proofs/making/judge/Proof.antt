@@ -10,6 +10,9 @@ check-counts-requires c κs = search judges
 enum-told : tie.Need-enum-told
 enum-told c = search judges
 
+slice-aggregate-make : tie.Need-slice-aggregate-make
+slice-aggregate-make c = search judges
+
 make-requires : tie.Need-make-requires
 make-requires c κs = search judges
 
@@ -31,6 +34,7 @@ judge-spec =
     (tie.spec
     check-counts-requires
     enum-told
+    slice-aggregate-make
     make-requires
     enum-known-counted
     same-length
