@@ -4,7 +4,7 @@ ghost use mathlib.Core.Path.{_≡_};
 ghost use lib.ListN.{length};
 ghost use Rattle.text.specs.Said.{said};
 ghost use Rattle.text.specs.Transcripts.{readAnswer, roomLeft, fileOf};
-use making::FILE_ROOM;
+pub use making::FILE_ROOM;
 use making::fault;
 use making::judge;
 use script::Tally;

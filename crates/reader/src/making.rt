@@ -25,7 +25,7 @@ use score::check_file;
 use text::Transcript;
 use tokens::place_behind;
 
-// Room for the largest file, and for its bodies.
+// "2 for a file room under 52,256 bytes": the largest file. Then the rooms of its bodies.
 pub const FILE_ROOM: usize = 52256;
 
 const DURATIONS_ROOM: usize = 1024;
