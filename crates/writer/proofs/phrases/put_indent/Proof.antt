@@ -15,12 +15,20 @@ add-put-spaces c =
     let start = c .before .before in
     let w = indent-room (start .args .out .now) (start .args .at) (start .args .depth) (start .pre) in search needs
 
+put-spaces-requires : tie.Need-put-spaces-requires
+put-spaces-requires c κs =
+    let start = c .before .before in
+    let w = indent-room (start .args .out .now) (start .args .at) (start .args .depth) (start .pre) in search needs
+
+returns : tie.Need-returns
+returns c = search indents
+
 pub put-indent-spec : {M : Type 1} → statement M
 put-indent-spec =
     tie.close
     (tie.spec
     mul-put-spaces
     add-put-spaces
-    (λ c κs. search indents)
+    put-spaces-requires
     (λ c. search indents)
-    (λ c. search indents))
+    returns)
