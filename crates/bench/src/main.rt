@@ -106,7 +106,8 @@ fn read_again(written: &[u8], size: usize) -> Told {
             figure: 0,
         };
     }
-    tell_transcript(reader::read_text(&written[..size], &mut room))
+    let from = 0;
+    tell_transcript(reader::read_text(&written[from..size], &mut room))
 }
 
 // The score written as text, and, for another word, that text read.

@@ -354,7 +354,7 @@ fn read_into(o: Order, text: &mut [u8]) -> Ending {
     read_named_text(o, &mut name, &mut made, text, &mut out)
 }
 
-// `read TEXT FILE`. The text's room stands in a function of its own: its length is proved by a law, since to count it would be too much.
+// `read TEXT FILE`. The text's room stands in a function of its own, and so does that of `write`: the length of so long an array is proved by a law, since to count it would be too much.
 fn read(o: Order) -> Ending {
     let mut text = [0u8; TEXT_ROOM];
     read_into(o, &mut text)
@@ -398,12 +398,18 @@ fn write_named_score(
     write_score(&name[from..shown], &file[from..size], made, m, room, out)
 }
 
+fn write_into(o: Order, room: &mut [u8]) -> Ending {
+    let mut name = [0u8; PATH_MAX];
+    let mut made = [0u8; PATH_MAX];
+    let mut file = [0u8; FILE_ROOM];
+    let mut out = [0u8; LINE_ROOM];
+    write_named_score(o, &mut name, &mut made, &mut file, room, &mut out)
+}
+
 // `write FILE TEXT`
-fn write(o: Order, name: &mut [u8], made: &mut [u8], file: &mut [u8], out: &mut [u8]) -> Ending
-    requires { ⌜ (length (now name) ≡ 4096) × (length (now made) ≡ 4096) × (8192 ≤ length (now out)) ⌝ }
-{
+fn write(o: Order) -> Ending {
     let mut room = [0u8; WRITTEN_ROOM];
-    write_named_score(o, name, made, file, &mut room, out)
+    write_into(o, &mut room)
 }
 
 // ---- words
@@ -446,7 +452,7 @@ fn carry_out(o: Order, arg: &mut [u8], out: &mut [u8]) -> Ending
         Command::Check => check(arg, &mut file, out),
         Command::Play => play(o, arg, &mut list, &mut file, out),
         Command::Read => read(o),
-        Command::Write => write(o, arg, &mut list, &mut file, out),
+        Command::Write => write(o),
         Command::Replies => replies(out),
         Command::Help => help(out),
     }
