@@ -1,3 +1,4 @@
 pub mod TestLaws
+pub mod RangeLaws
 pub mod CheckLaws
 pub mod OnlyLaws

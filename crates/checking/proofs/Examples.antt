@@ -6,6 +6,7 @@ use Prim.Native.Nat.{ℕ}
 use lib.ListN.{set}
 use Rattle.ascii.specs.Text.{bytesOf}
 use Rattle.base.specs.Tests.{pick, every, between}
+use Rattle.base.specs.Ranges.{byRange}
 use Rattle.base.specs.Checks.{need, firstFault}
 use Rattle.base.specs.Only.{only}
 use Rattle.ascii.specs.Decimals.{digitsOf, decimal}
@@ -43,10 +44,10 @@ small =
     ∷ []
 
 pub small-accepted : checkedLine (bytesOf "small") small ≡ bytesOf "small: accepted, 3 events, 3 items, 2 actions, 2 messages, parts 0\n"
-unfolding small checkedLine lineBy checked bodiesRight countsOf offsetsOf u16At u32At countsRight offsetsRight eventsRight durationsAt itemsRight walked walkOf onward walkFault itemRight fieldsRight standingRight wordsRight partRight eventRight inOrder nestingRight numberRight actionsRight withinOf ownOf next inside itemAt itemsFrom messagesRight messageRight readable labelByte part decode firstFault need every between pick acceptedLine countsTold listed partsTold actionsIn uses partsIn only decimal digitsOf refusalLine whereWords placeWords atByte refusalRow faultRow refusalWords faultWords placed faultPlaced entryOf entryAt entryWords fieldWords
+unfolding small checkedLine lineBy checked bodiesRight countsOf offsetsOf u16At u32At countsRight offsetsRight eventsRight durationsAt itemsRight walked walkOf onward walkFault itemRight fieldsRight standingRight wordsRight partRight eventRight inOrder nestingRight numberRight actionsRight withinOf ownOf next inside itemAt itemsFrom messagesRight messageRight readable labelByte byRange part decode firstFault need every between pick acceptedLine countsTold listed partsTold actionsIn uses partsIn only decimal digitsOf refusalLine whereWords placeWords atByte refusalRow faultRow refusalWords faultWords placed faultPlaced entryOf entryAt entryWords fieldWords
 small-accepted = refl
 
 -- The same with another part at byte 71, in the item at page place 2: its group has part 0.
 pub small-bad-item : checkedLine (bytesOf "small") (set small 71 1) ≡ bytesOf "small: refused 7 at byte 68, item 2: an item against the rules; also the 1,025th action\n"
-unfolding small checkedLine lineBy checked bodiesRight countsOf offsetsOf u16At u32At countsRight offsetsRight eventsRight durationsAt itemsRight walked walkOf onward walkFault itemRight fieldsRight standingRight wordsRight partRight eventRight inOrder nestingRight numberRight actionsRight withinOf ownOf next inside itemAt itemsFrom messagesRight messageRight readable labelByte part decode firstFault need every between pick acceptedLine countsTold listed partsTold actionsIn uses partsIn only decimal digitsOf refusalLine whereWords placeWords atByte refusalRow faultRow refusalWords faultWords placed faultPlaced entryOf entryAt entryWords fieldWords
+unfolding small checkedLine lineBy checked bodiesRight countsOf offsetsOf u16At u32At countsRight offsetsRight eventsRight durationsAt itemsRight walked walkOf onward walkFault itemRight fieldsRight standingRight wordsRight partRight eventRight inOrder nestingRight numberRight actionsRight withinOf ownOf next inside itemAt itemsFrom messagesRight messageRight readable labelByte byRange part decode firstFault need every between pick acceptedLine countsTold listed partsTold actionsIn uses partsIn only decimal digitsOf refusalLine whereWords placeWords atByte refusalRow faultRow refusalWords faultWords placed faultPlaced entryOf entryAt entryWords fieldWords
 small-bad-item = refl

@@ -36,13 +36,12 @@ module _ (f : List ℕ) (at count : ℕ) (W : Bool) where
   unfolding readable
   readable-more p l = rw (part-more f at count p l)
 
-  module _ (t : Bool) (b : ℕ) (some : 0 < count) (fits : at + count ≤ length f) (eb : b ≡ byteAt f at) (et : t ≡ labelByte b) where
+  module _ (t : Bool) (some : 0 < count) (fits : at + count ≤ length f) (told : t ≡ labelByte (byteAt f at)) where
     pub readable-bad : not t ≡ true → readable (part f at count) ≡ W → false ≡ W
-    readable-bad p q = every-stop (labelByte (byteAt f at)) _ (rw (← eb) (told-false t _ et p)) ∙ sym (readable-more some fits) ∙ q
+    readable-bad p q = every-stop (labelByte (byteAt f at)) _ (told-false t _ told p) ∙ sym (readable-more some fits) ∙ q
 
     pub readable-step : not t ≡ false → readable (part f at count) ≡ W → readable (part f (at + 1) (count - 1)) ≡ W
-    readable-step p q =
-        every-pass (labelByte (byteAt f at)) _ _ (rw (← eb) (told-true t _ et p)) (every-last _ _ refl) ∙ sym (readable-more some fits) ∙ q
+    readable-step p q = every-pass (labelByte (byteAt f at)) _ _ (told-true t _ told p) (every-last _ _ refl) ∙ sym (readable-more some fits) ∙ q
 
 pub ruleset labels = (readable-none, readable-bad, readable-step, needs)
 

@@ -1,9 +1,10 @@
 -- "Message: 4 bytes, start and length (u16) in the text."
 use Prim.Native.Nat.{ℕ, zero, suc, _+_}
-use mathlib.Core.Bool.{Bool, true, not}
+use mathlib.Core.Bool.{Bool, true, false}
 use mathlib.Core.List.{List, [], _∷_}
 use lib.Dec.{leb, eqb}
 use Rattle.base.specs.Tests.{every, between}
+use Rattle.base.specs.Ranges.{byRange, _to_⇒_}
 use Rattle.base.specs.Checks.{Check, need, firstFault}
 use Rattle.contents.specs.declared.Fault.{Fault}
 use Rattle.contents.specs.declared.Fault.the-variants.{BadMessage, TextLeft}
@@ -12,9 +13,17 @@ use Rattle.contents.specs.Limits.{messageSize, longestLabel}
 use Rattle.contents.specs.Bytes.{u16At, part}
 use Rattle.contents.specs.Contents.{textAt}
 
--- "Label bytes are 32 to 255 but not 127"
+-- "Label bytes are 32 to 255 but not 127", by range. What is above 255 is no byte.
 unfoldable pub labelByte : ℕ → Bool
-labelByte b = every (between 32 255 b ∷ not (eqb b 127) ∷ [])
+labelByte b =
+    byRange b (
+    0 to 31 ⇒ false
+    ∷ 32 to 126 ⇒ true
+    ∷ 127 to 127 ⇒ false
+    ∷ 128 to 255 ⇒ true
+    ∷ []
+    )
+    false
 
 unfoldable pub readable : List ℕ → Bool
 readable [] = true

@@ -11,22 +11,22 @@ ghost use Rattle.messages.specs.Messages.{labelByte, readable, messageRi
 use contents::Counts;
 use contents::Fault;
 use contents::Verdict;
-use contents::bytes::byte;
 use contents::bytes::read16;
 use contents::limits::LONGEST_LABEL;
 use contents::limits::MESSAGE_SIZE;
 use contents::messages_at;
 use contents::text_at;
 
-// "Label bytes are 32 to 255 but not 127"
-fn label_byte(b: usize) -> bool
-    requires { ⌜ b < 256 ⌝ }
+// "Label bytes are 32 to 255 but not 127", by range.
+fn label_byte(b: u8) -> bool
     ensures { λ r. ⌜ r ≡ labelByte b ⌝ }
 {
-    if b < 32 {
-        return false;
+    match b {
+        0..=31 => false,
+        32..=126 => true,
+        127 => false,
+        128..=255 => true,
     }
-    b != 127
 }
 
 // Whether the `count` bytes from `at` on are label bytes.
@@ -37,7 +37,7 @@ fn label_bytes(file: &[u8], at: usize, count: usize) -> bool
     let mut i = at;
     let mut left = count;
     while 0 < left {
-        if !label_byte(byte(file, i)) {
+        if !label_byte(file[i]) {
             return false;
         }
         i += 1;

@@ -17,7 +17,8 @@ use Rattle.contents.specs.Limits.{contentsSize, eventSize, itemSize, messageSiz
 use Rattle.contents.specs.Contents.{offsetsOf, countsOf, countsRight, offsetsRight, eventsAt, itemsAt, messagesAt, textAt, sizeOf}
 use Rattle.contents.specs.Inner.{Counted}
 use Rattle.items.specs.Items.{itemsFrom}
-use Rattle.messages.specs.Messages.{labelByte, readable, labelsAt, messagesRight}
+use Rattle.messages.specs.Messages.{readable, labelsAt, messagesRight}
+use Rattle.messages.proofs.LabelLaws.{label-byte-high}
 use Rattle.score.specs.Events.{durationsAt}
 use Rattle.score.specs.Piece.{Piece, decode}
 use Rattle.score.specs.File.{bodiesRight, checked, Accepted}
@@ -169,10 +170,10 @@ entries-bytes from (l ∷ ls) e q =
     (bytes-append (le16-bytes (length l) (omega arith)) (entries-bytes (from + length l) ls (every-head _ _ (every-rest _ _ (every-rest _ _ e))) (omega arith)))
 
 label-bytes : (l : List ℕ) → readable l ≡ true → Bytes l
-unfolding readable labelByte
+unfolding readable
 label-bytes [] e = empty
 label-bytes (b ∷ l) e =
-    let small : b < 256 = omega (arith, between-high 32 255 b (every-head _ _ (every-head _ _ e))) in
+    let small : b < 256 = omega (arith, label-byte-high b (every-head _ _ e)) in
     byte small (label-bytes l (every-head _ _ (every-rest _ _ e)))
 
 text-bytes : (ls : List (List ℕ)) → labelsRight ls ≡ true → Bytes (textBytes ls)

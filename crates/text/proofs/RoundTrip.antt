@@ -9,7 +9,7 @@ use lib.ListN.{length, getD}
 use borrow.Author.Tests.{ne-eqb, le-leb, lt-ltb}
 use Rattle.base.specs.Tests.{pick}
 use Rattle.base.specs.Checks.{fine, firstFault}
-use Rattle.base.proofs.TestLaws.{every-head, every-rest, between-low, between-high}
+use Rattle.base.proofs.TestLaws.{every-head, every-rest, between-high}
 use Rattle.base.proofs.CheckLaws.{first-head, first-rest, first-holds}
 use Rattle.ascii.specs.Words.{newline}
 use Rattle.contents.specs.declared.Fault.the-variants.{BadEvent}
@@ -21,6 +21,7 @@ use Rattle.tokens.specs.Bytes.{isPlain, All, none, one}
 use Rattle.tokens.specs.Beats.{field}
 use Rattle.items.proofs.Walked.{table-walked}
 use Rattle.messages.specs.Messages.{labelByte, readable}
+use Rattle.messages.proofs.LabelLaws.{label-byte-low}
 use Rattle.score.specs.Events.{eventsRight}
 use Rattle.score.specs.Piece.{Piece, decode}
 use Rattle.score.specs.File.{Accepted}
@@ -41,8 +42,7 @@ use Rattle.text.proofs.PageLaws.{Page, inField, before-events, Says, pa
 -- ---- labels and durations that can be written
 
 plain-byte : (b : ℕ) → labelByte b ≡ true → isPlain b ≡ true
-unfolding labelByte
-plain-byte b e = rw (ne-eqb b newline (λ q. omega (arith, between-low 32 255 b (every-head _ _ e))))
+plain-byte b e = rw (ne-eqb b newline (λ q. omega (arith, label-byte-low b e)))
 
 plain-label : (l : List ℕ) → readable l ≡ true → All isPlain l
 unfolding readable

@@ -1,18 +1,15 @@
--- A byte is below 256, so only the two tests are left of the definition.
+-- Each arm is its own case; the single number is asked first.
 -- Assumes nothing.
-use borrow.Author.Needs.{needs}
-use Rattle.base.proofs.TestLaws.{every-stop, between-under, tests}
-use Rattle.messages.specs.Messages.{labelByte}
+use native.Mathlib.Omega.{arith}
+use Rattle.messages.proofs.LabelLaws.{label-to-31, label-to-126, label-127, label-to-255}
 use Rattle.messages.proofs.label_byte.Statement.{statement}
 use Rattle.messages.proofs.label_byte.Tie as tie
 
-returns : tie.Need-returns
-unfolding labelByte
-returns c = search (every-stop, between-under, needs)
-
-returns-2 : tie.Need-returns-2
-unfolding labelByte
-returns-2 c = search (tests, needs) depth 9
-
 pub label-byte-spec : {M : Type 1} → statement M
-label-byte-spec = tie.close (tie.spec returns returns-2)
+label-byte-spec =
+    tie.close
+    (tie.spec
+    (λ c. label-127 _ (c .match .keys1))
+    (λ c. label-to-31 _ (omega arith))
+    (λ c. label-to-126 _ (omega arith) (omega arith))
+    (λ c. label-to-255 _ (omega arith) (omega arith)))

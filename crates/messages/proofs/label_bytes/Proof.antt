@@ -31,7 +31,7 @@ label-bytes-spec =
     Inv-loop
     μ-loop
     (λ c. search labels)
-    (λ c κs. search labels)
+    (λ c. search labels)
     (λ c κs. search labels)
     returns
     (λ c. search labels)
