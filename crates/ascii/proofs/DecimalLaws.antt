@@ -12,7 +12,7 @@ use borrow.Author.Tests.{lt-ltb, le-ltb, ltb-true, ltb-false}
 use Rattle.base.specs.Tests.{pick, every}
 use Rattle.base.proofs.TestLaws.{every-pass, every-end, every-head, every-rest, between-in}
 use Rattle.ascii.specs.Words.{zeroDigit, nineDigit}
-use Rattle.ascii.specs.Numbers.{allDigits, valueFrom, value}
+use Rattle.ascii.specs.Numbers.{isDigit, allDigits, valueFrom, value}
 use Rattle.ascii.specs.Decimals.{mostPlaces, digitsOf, decimal}
 
 -- ---- the digits, in the code's own terms
@@ -83,7 +83,7 @@ all-both (x ∷ xs) ys p q =
     sym (every-pass _ true _ (every-head _ _ p) (every-pass _ true _ (all-both xs ys (every-head _ _ r) q) every-end))
 
 all-digit : (d : ℕ) → d < 10 → allDigits ((zeroDigit + d) ∷ []) ≡ true
-unfolding allDigits
+unfolding allDigits isDigit
 all-digit d p = sym (every-pass _ true _ (between-in zeroDigit nineDigit (zeroDigit + d) (omega arith) (omega arith)) (every-pass _ true _ refl every-end))
 
 digits-all : (k n : ℕ) → allDigits (digitsOf k n) ≡ true

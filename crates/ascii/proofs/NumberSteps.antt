@@ -1,7 +1,7 @@
 -- One step of reading a number's digits, in the code's own terms, and what the answer tells. The sum of i digits stays below 10 ^ i, so that ten of them never wrap.
 -- Assumes nothing.
 use mathlib.Core.Path.{_≡_, refl, sym, ap, _∙_}
-use mathlib.Core.Bool.{Bool, true, false}
+use mathlib.Core.Bool.{Bool, true, false, not}
 use mathlib.Core.List.{List, [], _∷_}
 use Prim.Native.Nat.{ℕ, _+_, _-_, _*_, _^_, _<_, _≤_}
 use native.Mathlib.Nat.{pow-suc, pow-le-pow-right}
@@ -9,13 +9,24 @@ use native.Mathlib.Numerals.{add-one}
 use native.Mathlib.Omega.{arith}
 use lib.ListN.{length, drop, getD, drop-of-length-le}
 use borrow.Author.Needs.{needs}
-use Rattle.base.specs.Tests.{pick, every, between}
-use Rattle.base.proofs.TestLaws.{every-pass, every-stop, every-last, every-end, between-in, between-under, between-over, pick-true, pick-false}
+use Rattle.base.specs.Tests.{pick, every}
+use Rattle.base.proofs.TestLaws.{every-pass, every-stop, every-last, every-end, between-in, between-under, between-over, between-low, between-high, pick-true, pick-false, told-true, told-false}
 use Rattle.ascii.specs.declared.Number.{Number}
 use Rattle.ascii.specs.declared.Number.the-variants.{Read, Unreadable}
 use Rattle.ascii.specs.Words.{zeroDigit, nineDigit}
-use Rattle.ascii.specs.Numbers.{mostDigits, allDigits, isNumber, valueFrom, value, numberOf}
+use Rattle.ascii.specs.Numbers.{mostDigits, isDigit, allDigits, isNumber, valueFrom, value, numberOf}
 use Rattle.ascii.proofs.WordSteps.{drop-next}
+
+-- ---- a digit
+
+module _ (b : ℕ) (t : Bool) (told : t ≡ isDigit b) (digit : not t ≡ false) where
+  pub digit-low : zeroDigit ≤ b
+  unfolding isDigit
+  digit-low = between-low zeroDigit nineDigit b (told-true t _ told digit)
+
+  pub digit-high : b ≤ nineDigit
+  unfolding isDigit
+  digit-high = between-high zeroDigit nineDigit b (told-true t _ told digit)
 
 -- ---- what is no number
 
@@ -53,18 +64,16 @@ unfolding value
 value-start bs = refl
 
 module _ (bs : List ℕ) (i : ℕ) (more : i < length bs) where
-  digits-more : allDigits (drop i bs) ≡ every (between zeroDigit nineDigit (getD bs i 0) ∷ allDigits (drop (i + 1) bs) ∷ [])
+  digits-more : allDigits (drop i bs) ≡ every (isDigit (getD bs i 0) ∷ allDigits (drop (i + 1) bs) ∷ [])
   unfolding allDigits
   digits-more = rw (drop-next bs i more)
 
-  pub digit-under : allDigits (drop i bs) ≡ allDigits bs → getD bs i 0 < zeroDigit → Unreadable ≡ numberOf bs
-  digit-under e p = odd-digit bs (sym e ∙ digits-more ∙ sym (every-stop _ _ (between-under zeroDigit nineDigit _ p)))
+  module _ (t : Bool) (told : t ≡ isDigit (getD bs i 0)) (e : allDigits (drop i bs) ≡ allDigits bs) where
+    pub digits-bad : not t ≡ true → Unreadable ≡ numberOf bs
+    digits-bad p = odd-digit bs (sym e ∙ digits-more ∙ sym (every-stop _ _ (told-false t _ told p)))
 
-  pub digit-over : allDigits (drop i bs) ≡ allDigits bs → nineDigit < getD bs i 0 → Unreadable ≡ numberOf bs
-  digit-over e p = odd-digit bs (sym e ∙ digits-more ∙ sym (every-stop _ _ (between-over zeroDigit nineDigit _ p)))
-
-  pub digits-step : zeroDigit ≤ getD bs i 0 → getD bs i 0 ≤ nineDigit → allDigits (drop i bs) ≡ allDigits bs → allDigits (drop (i + 1) bs) ≡ allDigits bs
-  digits-step p q e = every-pass _ _ _ (between-in zeroDigit nineDigit _ p q) (every-last _ _ refl) ∙ sym digits-more ∙ e
+    pub digits-step : not t ≡ false → allDigits (drop (i + 1) bs) ≡ allDigits bs
+    digits-step p = every-pass _ _ _ (told-true t _ told p) (every-last _ _ refl) ∙ sym digits-more ∙ e
 
   pub value-step : (sum d : ℕ) → d ≡ getD bs i 0 - zeroDigit → valueFrom sum (drop i bs) ≡ value bs → valueFrom (10 * sum + d) (drop (i + 1) bs) ≡ value bs
   unfolding valueFrom
@@ -96,7 +105,7 @@ number-read bs i sum p q l e v =
     let w : sum ≡ value bs = rw (drop-of-length-le bs l) at v in
     pick-true _ _ _ _ (sym (every-pass _ true _ (between-in 1 mostDigits _ p q) (every-pass _ true _ (sym d) every-end))) (ap Read w)
 
-pub ruleset reading = (number-short, number-long, digit-under, digit-over, digits-step, value-start, value-step, sum-start, sum-step, ten-fits, sum-fits, number-read, needs)
+pub ruleset reading = (digit-low, digit-high, number-short, number-long, digits-bad, digits-step, value-start, value-step, sum-start, sum-step, ten-fits, sum-fits, number-read, needs)
 
 -- ---- what reading a number told
 

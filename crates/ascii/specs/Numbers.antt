@@ -11,9 +11,13 @@ use Rattle.ascii.specs.Words.{zeroDigit, nineDigit}
 abbrev pub mostDigits : ℕ
 mostDigits = 10
 
+-- The bytes of 0 to 9.
+unfoldable pub isDigit : ℕ → Bool
+isDigit b = between zeroDigit nineDigit b
+
 unfoldable pub allDigits : List ℕ → Bool
 allDigits [] = true
-allDigits (b ∷ bs) = every (between zeroDigit nineDigit b ∷ allDigits bs ∷ [])
+allDigits (b ∷ bs) = every (isDigit b ∷ allDigits bs ∷ [])
 
 unfoldable pub isNumber : List ℕ → Bool
 isNumber bs = every (between 1 mostDigits (length bs) ∷ allDigits bs ∷ [])

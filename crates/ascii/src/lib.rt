@@ -4,6 +4,7 @@ pub use laying::put_bytes;
 pub use laying::put_decimal;
 pub use laying::put_number;
 pub use laying::put_spaces;
+pub use numbers::is_digit;
 pub use numbers::read_number;
 pub use words::begins;
 pub use words::bytes_before;

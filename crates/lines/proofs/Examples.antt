@@ -6,7 +6,7 @@ use Prim.Native.Nat.{ℕ}
 use Rattle.base.specs.Tests.{pick, every, between}
 use Rattle.ascii.specs.Text.{bytesOf}
 use Rattle.ascii.specs.Words.{begins, bytesBefore}
-use Rattle.ascii.specs.Numbers.{allDigits, isNumber, valueFrom, value}
+use Rattle.ascii.specs.Numbers.{isDigit, allDigits, isNumber, valueFrom, value}
 use Rattle.ascii.specs.Decimals.{digitsOf, decimal}
 use Rattle.lines.specs.declared.Command.the-variants.{Open, Hear, Pass, Bad}
 use Rattle.lines.specs.Commands.{firstWord, otherWords, twoNumbers, openOf, hearOf, passOf, commandOf}
@@ -16,7 +16,7 @@ abbrev pub readableLines : List (List ℕ)
 readableLines = bytesOf "O 1 5040" ∷ bytesOf "H 1 5040" ∷ bytesOf "T 1000" ∷ bytesOf "O 65535 0" ∷ bytesOf "T 0000000001" ∷ []
 
 pub readable-lines : map commandOf readableLines ≡ Open 1 5040 ∷ Hear 1 5040 ∷ Pass 1000 ∷ Open 65535 0 ∷ Pass 1 ∷ []
-unfolding pick every between bytesBefore allDigits isNumber valueFrom value begins firstWord otherWords twoNumbers openOf hearOf passOf commandOf
+unfolding pick every between bytesBefore isDigit allDigits isNumber valueFrom value begins firstWord otherWords twoNumbers openOf hearOf passOf commandOf
 readable-lines = refl
 
 -- the empty line; parts above 65,535; 11 digits; a doubled space; a leading space; a trailing space; a sign; lower case; no number; no space; a carriage return; a tab; the byte 0
@@ -37,7 +37,7 @@ unreadableLines = []
     ∷ []
 
 pub unreadable-lines : map commandOf unreadableLines ≡ map (λ l. Bad) unreadableLines
-unfolding pick every between bytesBefore allDigits isNumber valueFrom value begins firstWord otherWords twoNumbers openOf hearOf passOf commandOf
+unfolding pick every between bytesBefore isDigit allDigits isNumber valueFrom value begins firstWord otherWords twoNumbers openOf hearOf passOf commandOf
 unreadable-lines = refl
 
 pub open-0-parts-1 : openLine 0 1 ≡ bytesOf "open 0 parts 1\n"

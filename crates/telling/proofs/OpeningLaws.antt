@@ -10,7 +10,7 @@ use borrow.Author.Tests.{ne-eqb}
 use Rattle.base.specs.Tests.{pick}
 use Rattle.base.proofs.TestLaws.{every-head, between-high}
 use Rattle.ascii.specs.Words.{begins, space, zeroDigit, nineDigit}
-use Rattle.ascii.specs.Numbers.{allDigits}
+use Rattle.ascii.specs.Numbers.{isDigit, allDigits}
 use Rattle.ascii.specs.Decimals.{digitsOf, decimal}
 use Rattle.ascii.proofs.DecimalLaws.{decimal-digits}
 use Rattle.contents.specs.declared.Fault.{Fault}
@@ -67,7 +67,7 @@ opening-told (notOpened x) = rw (number-told x 0, refusal-numbered x)
 
 -- a line that begins with a number, or with the space behind it, is no opening's
 number-silent : (ds a b : List ℕ) → allDigits ds ≡ true → tellsRefusal (((ds ++ (space ∷ [])) ++ a) ++ b) ≡ false
-unfolding tellsRefusal begins pick allDigits
+unfolding tellsRefusal begins pick allDigits isDigit
 number-silent [] a b p = refl
 number-silent (d ∷ ds) a b p =
     let l : d ≤ nineDigit = between-high zeroDigit nineDigit d (every-head _ _ p) in

@@ -10,8 +10,9 @@ use lib.Dec.{ltb, eqb}
 use borrow.Author.Tests.{lt-ltb, eqb-true, eqb-false, ltb-true, ltb-false}
 use Rattle.base.specs.Tests.{pick, every}
 use Rattle.ascii.specs.Words.{space}
+use Rattle.ascii.specs.Numbers.{isDigit}
 use Rattle.ascii.specs.Decimals.{decimal}
-use Rattle.tokens.specs.Bytes.{slash, isDigit, Stops, nothing, here}
+use Rattle.tokens.specs.Bytes.{slash, Stops, nothing, here}
 use Rattle.tokens.specs.Tokens.{got, onward}
 use Rattle.tokens.specs.Beats.{grainsOfABeat, field, isFraction, valued, fraction, beats}
 use Rattle.tokens.proofs.TokenLaws.{digits-end, digits-over, number-read}

@@ -6,9 +6,9 @@ use Prim.Native.Nat.{ℕ}
 use Rattle.base.specs.Tests.{pick, every, between}
 use Rattle.ascii.specs.Words.{begins, same}
 use Rattle.ascii.specs.Text.{bytesOf}
-use Rattle.ascii.specs.Numbers.{valueFrom, value}
+use Rattle.ascii.specs.Numbers.{isDigit, valueFrom, value}
 use Rattle.ascii.specs.Decimals.{digitsOf, decimal}
-use Rattle.tokens.specs.Bytes.{isBlank, isDigit, isLetter, isEscaped}
+use Rattle.tokens.specs.Bytes.{isBlank, isLetter, isEscaped}
 use Rattle.tokens.specs.Tokens.{onward, pastBlanks, leading, behind, isWord, isNumber, number, withByte, labelFrom, label}
 use Rattle.tokens.specs.Beats.{isFraction, valued, fraction, beats}
 use Rattle.tokens.specs.Quoted.{escaped, quoted}

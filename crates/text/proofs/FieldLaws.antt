@@ -11,10 +11,10 @@ use borrow.Author.Tests.{ltb-true}
 use Rattle.base.specs.Tests.{pick}
 use Rattle.base.specs.Checks.{fine}
 use Rattle.base.proofs.TestLaws.{every-head, every-rest}
-use Rattle.ascii.specs.Numbers.{value}
+use Rattle.ascii.specs.Numbers.{isDigit, value}
 use Rattle.contents.specs.Contents.{countsRight}
 use Rattle.contents.proofs.ContentsLaws.{counts-held}
-use Rattle.tokens.specs.Bytes.{slash, opening, closing, isDigit, isLetter}
+use Rattle.tokens.specs.Bytes.{slash, opening, closing, isLetter}
 use Rattle.tokens.specs.Tokens.{Read, got, stop, onward, blanks, leading, behind, isWord, isNumber, number, label}
 use Rattle.tokens.specs.Beats.{grainsOfABeat, field, isFraction, valued, fraction, beats}
 use Rattle.score.specs.Piece.{Piece}

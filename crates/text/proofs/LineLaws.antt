@@ -10,9 +10,10 @@ use borrow.Author.Tests.{ne-eqb, eq-eqb}
 use Rattle.base.specs.Tests.{pick, every, between}
 use Rattle.base.proofs.TestLaws.{between-under, between-low, between-high}
 use Rattle.ascii.specs.Words.{newline, space, zeroDigit, nineDigit, begins, same}
+use Rattle.ascii.specs.Numbers.{isDigit}
 use Rattle.ascii.specs.Text.{bytesOf}
 use Rattle.ascii.specs.Decimals.{decimal}
-use Rattle.tokens.specs.Bytes.{closing, letterA, letterZ, isBlank, isDigit, isLetter, isPlain, All, none, one, Stops, here}
+use Rattle.tokens.specs.Bytes.{closing, letterA, letterZ, isBlank, isLetter, isPlain, All, none, one, Stops, here}
 use Rattle.tokens.specs.Tokens.{Read, got, stop, onward, pastBlanks, blanks, leading, behind, isWord, isNumber, number}
 use Rattle.tokens.specs.Beats.{field, beats}
 use Rattle.tokens.specs.Quoted.{quoted}

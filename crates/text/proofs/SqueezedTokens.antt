@@ -10,7 +10,8 @@ use borrow.Author.Tests.{ne-eqb, eqb-true}
 use Rattle.base.specs.Tests.{pick}
 use Rattle.base.proofs.TestLaws.{between-low}
 use Rattle.ascii.specs.Words.{newline, space, zeroDigit, nineDigit}
-use Rattle.tokens.specs.Bytes.{quote, hash, slash, backslash, letterA, letterZ, isBlank, isDigit, isLetter, isEscaped, Stops, nothing, here}
+use Rattle.ascii.specs.Numbers.{isDigit}
+use Rattle.tokens.specs.Bytes.{quote, hash, slash, backslash, letterA, letterZ, isBlank, isLetter, isEscaped, Stops, nothing, here}
 use Rattle.tokens.specs.Tokens.{Read, got, stop, onward, pastBlanks, blanks, leading, behind, isWord, isNumber, number, withByte, labelFrom, label}
 use Rattle.tokens.specs.Beats.{field, isFraction, valued, fraction, beats}
 use Rattle.tokens.proofs.TokenLaws.{none-leads, none-behind, high-no-blank}

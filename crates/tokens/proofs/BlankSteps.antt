@@ -15,29 +15,31 @@ use Rattle.ascii.proofs.WordSteps.{drop-next}
 use Rattle.tokens.specs.Bytes.{tab, carriageReturn, hash, isBlank}
 use Rattle.tokens.specs.Tokens.{pastBlanks}
 use Rattle.tokens.specs.Asked.{PassesComment, InBlanks, Passes}
+use Rattle.tokens.proofs.TokenLaws.{no-blank}
 
 -- ---- a blank
 
 module _ (b : ℕ) where
   pub blank-space : b ≡ space → true ≡ isBlank b
   unfolding isBlank pick
-  blank-space p = rw (eq-eqb b 32 p)
+  blank-space e = rw e
 
-  module _ (n₁ : b ≡ space → ⊥) where
-    pub blank-tab : b ≡ tab → true ≡ isBlank b
-    unfolding isBlank pick
-    blank-tab p = rw (ne-eqb b 32 n₁, eq-eqb b 9 p)
+  pub blank-tab : b ≡ tab → true ≡ isBlank b
+  unfolding isBlank pick
+  blank-tab e = rw e
 
-    module _ (n₂ : b ≡ tab → ⊥) where
-      pub blank-return : b ≡ carriageReturn → true ≡ isBlank b
-      unfolding isBlank pick
-      blank-return p = rw (ne-eqb b 32 n₁, ne-eqb b 9 n₂, eq-eqb b 13 p)
+  pub blank-return : b ≡ carriageReturn → true ≡ isBlank b
+  unfolding isBlank pick
+  blank-return e = rw e
 
-      pub blank-last : (b ≡ carriageReturn → ⊥) → eqb b newline ≡ isBlank b
-      unfolding isBlank pick
-      blank-last n₃ = rw (ne-eqb b 32 n₁, ne-eqb b 9 n₂, ne-eqb b 13 n₃)
+  pub blank-newline : b ≡ newline → true ≡ isBlank b
+  unfolding isBlank pick
+  blank-newline e = rw e
 
-pub ruleset blank-tests = (blank-space, blank-tab, blank-return, blank-last, needs)
+  pub blank-none : (b ≡ space → ⊥) → (b ≡ tab → ⊥) → (b ≡ carriageReturn → ⊥) → (b ≡ newline → ⊥) → false ≡ isBlank b
+  blank-none s t r n = sym (no-blank b s t r n)
+
+pub ruleset blank-tests = (blank-space, blank-tab, blank-return, blank-newline, blank-none, needs)
 
 -- ---- within a comment
 

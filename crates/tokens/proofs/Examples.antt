@@ -6,8 +6,8 @@ use mathlib.Core.List.{[], _∷_, map}
 use Rattle.base.specs.Tests.{pick, every, between}
 use Rattle.ascii.specs.Text.{bytesOf}
 use Rattle.ascii.specs.Words.{begins, same}
-use Rattle.ascii.specs.Numbers.{valueFrom, value}
-use Rattle.tokens.specs.Bytes.{isBlank, isDigit, isLetter, isEscaped}
+use Rattle.ascii.specs.Numbers.{isDigit, valueFrom, value}
+use Rattle.tokens.specs.Bytes.{isBlank, isLetter, isEscaped}
 use Rattle.tokens.specs.Tokens.{got, stop, onward, pastBlanks, blanks, leading, behind, isWord, isNumber, number, withByte, labelFrom, label}
 use Rattle.tokens.specs.Beats.{isFraction, valued, fraction, beats}
 use Rattle.tokens.specs.Places.{placeFrom, placeBehind}

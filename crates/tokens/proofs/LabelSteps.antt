@@ -20,13 +20,17 @@ use Rattle.tokens.specs.Asked.{stopped, asRead, sizedFrom, Sizes}
 
 pub escaped-quote : (b : ℕ) → b ≡ quote → true ≡ isEscaped b
 unfolding isEscaped pick
-escaped-quote b p = rw (eq-eqb b quote p)
+escaped-quote b e = rw e
 
-pub escaped-last : (b : ℕ) → (b ≡ quote → ⊥) → eqb b backslash ≡ isEscaped b
+pub escaped-backslash : (b : ℕ) → b ≡ backslash → true ≡ isEscaped b
 unfolding isEscaped pick
-escaped-last b p = rw (ne-eqb b quote p)
+escaped-backslash b e = rw e
 
-pub ruleset escaped-tests = (escaped-quote, escaped-last, needs)
+pub escaped-none : (b : ℕ) → (b ≡ quote → ⊥) → (b ≡ backslash → ⊥) → false ≡ isEscaped b
+unfolding isEscaped pick
+escaped-none b q n = rw (ne-eqb b quote q, ne-eqb b backslash n)
+
+pub ruleset escaped-tests = (escaped-quote, escaped-backslash, escaped-none, needs)
 
 -- one byte more
 sized-byte : (n b : ℕ) (r : Read (List ℕ)) → sizedFrom n (withByte b r) ≡ sizedFrom (n + 1) r

@@ -1,6 +1,6 @@
 -- Each step of reading a number's digits, in the code's own terms. The sum of n digits stays below 10 ^ n, so that ten of them never wrap.
 -- Assumes nothing.
-use mathlib.Core.Path.{_≡_, refl, sym}
+use mathlib.Core.Path.{_≡_, refl}
 use mathlib.Core.Bool.{Bool, true, false, not}
 use mathlib.Core.List.{List, [], _∷_}
 use Prim.Native.Nat.{ℕ, suc, _+_, _-_, _*_, _^_, _<_, _≤_}
@@ -10,36 +10,18 @@ use lib.Dec.{leb, ltb}
 use borrow.Author.Tests.{le-leb, lt-leb, lt-ltb, le-ltb, ltb-true}
 use borrow.Author.Needs.{needs}
 use Rattle.base.specs.Tests.{pick, every, between}
-use Rattle.base.proofs.TestLaws.{every-pass, every-last, told-true, told-false, between-low, between-high, between-under, between-over}
-use Rattle.ascii.specs.Words.{zeroDigit, nineDigit}
-use Rattle.ascii.specs.Numbers.{mostDigits, valueFrom, value}
+use Rattle.base.proofs.TestLaws.{told-true, told-false, between-over}
+use Rattle.ascii.specs.Words.{zeroDigit}
+use Rattle.ascii.specs.Numbers.{mostDigits, isDigit, valueFrom, value}
 use Rattle.ascii.proofs.WordSteps.{drop-next}
-use Rattle.ascii.proofs.NumberSteps.{sum-step, ten-fits, sum-fits}
+use Rattle.ascii.proofs.NumberSteps.{digit-low, digit-high, sum-step, ten-fits, sum-fits}
 use Rattle.tokens.specs.declared.Token.{Token}
-use Rattle.tokens.specs.Bytes.{isDigit, Stops, nothing, here}
+use Rattle.tokens.specs.Bytes.{Stops, nothing, here}
 use Rattle.tokens.specs.Tokens.{got, stop, leading, behind, isNumber, number}
 use Rattle.tokens.specs.Asked.{stopped, endedAs, asRead, Reads}
 use Rattle.tokens.proofs.TokenLaws.{none-leads, none-behind}
 
 -- ---- a digit
-
-pub digit-under : (b : ℕ) → b < zeroDigit → false ≡ isDigit b
-unfolding isDigit
-digit-under b p = sym (between-under zeroDigit nineDigit b p)
-
-pub digit-last : (b : ℕ) → zeroDigit ≤ b → leb b nineDigit ≡ isDigit b
-unfolding isDigit between
-digit-last b p = every-pass _ _ _ (le-leb zeroDigit b p) (every-last _ _ refl)
-
-pub ruleset digit-tests = (digit-under, digit-last, needs)
-
-pub digit-low : (b : ℕ) (r : Bool) → r ≡ isDigit b → not r ≡ false → zeroDigit ≤ b
-unfolding isDigit
-digit-low b r e p = between-low zeroDigit nineDigit b (told-true r _ e p)
-
-pub digit-high : (b : ℕ) (r : Bool) → r ≡ isDigit b → not r ≡ false → b ≤ nineDigit
-unfolding isDigit
-digit-high b r e p = between-high zeroDigit nineDigit b (told-true r _ e p)
 
 pub digit-fits : (b : ℕ) (r : Bool) → r ≡ isDigit b → not r ≡ false → b - zeroDigit < 2 ^ 64
 digit-fits b r e p = omega (arith, digit-high b r e p)

@@ -12,11 +12,11 @@ use borrow.Author.Tests.{not-false}
 use Rattle.base.specs.Tests.{pick}
 use Rattle.base.proofs.TestLaws.{every-head, between-low}
 use Rattle.ascii.specs.Words.{newline}
-use Rattle.ascii.specs.Numbers.{mostDigits, value}
+use Rattle.ascii.specs.Numbers.{mostDigits, isDigit, value}
 use Rattle.ascii.proofs.WordLaws.{same-bytes}
 use Rattle.tokens.specs.declared.Token.{Token}
-use Rattle.tokens.specs.Bytes.{hash, slash, quote, backslash, isBlank, isDigit, isLetter, isEscaped}
-use Rattle.tokens.specs.Tokens.{Read, got, stop, onward, pastBlanks, blanks, leading, behind, isWord, isNumber, number, withByte, labelFrom, label}
+use Rattle.tokens.specs.Bytes.{hash, slash, quote, backslash, isBlank, isLetter, isEscaped}
+use Rattle.tokens.specs.Tokens.{Read, got, stop, onward, pastBlanks, leading, behind, isWord, isNumber, number, withByte, labelFrom, label}
 use Rattle.tokens.specs.Beats.{field, grainsOfABeat, isFraction, valued, fraction, beats}
 use Rattle.tokens.specs.Asked.{asRead, Reads}
 

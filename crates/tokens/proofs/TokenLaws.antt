@@ -12,10 +12,10 @@ use borrow.Author.Tests.{lt-ltb, ltb-false, ne-eqb, not-true}
 use Rattle.base.specs.Tests.{pick, every, between}
 use Rattle.base.proofs.TestLaws.{every-head, every-rest, between-in, between-low}
 use Rattle.ascii.specs.Words.{newline, space, zeroDigit, nineDigit, same}
-use Rattle.ascii.specs.Numbers.{mostDigits, allDigits}
+use Rattle.ascii.specs.Numbers.{mostDigits, isDigit, allDigits}
 use Rattle.ascii.specs.Decimals.{mostPlaces, digitsOf, decimal}
 use Rattle.ascii.proofs.DecimalLaws.{fewer, second-place, decimal-value, decimal-digits}
-use Rattle.tokens.specs.Bytes.{hash, slash, quote, backslash, isBlank, isDigit, isLetter, isPlain, isEscaped, All, none, one, Stops, nothing, here}
+use Rattle.tokens.specs.Bytes.{tab, carriageReturn, hash, slash, quote, backslash, isBlank, isLetter, isPlain, isEscaped, All, none, one, Stops, nothing, here}
 use Rattle.tokens.specs.Tokens.{got, pastBlanks, blanks, leading, behind, isWord, isNumber, number, withByte, labelFrom, label}
 use Rattle.tokens.specs.Quoted.{escaped, quoted}
 
@@ -115,10 +115,13 @@ pub blanks-solid : (b : ℕ) (bs : List ℕ) → isBlank b ≡ false → (b ≡ 
 unfolding pastBlanks pick
 blanks-solid b bs e n = rw (e, ne-eqb b hash n)
 
+pub no-blank : (b : ℕ) → (b ≡ space → ⊥) → (b ≡ tab → ⊥) → (b ≡ carriageReturn → ⊥) → (b ≡ newline → ⊥) → isBlank b ≡ false
+unfolding isBlank pick
+no-blank b s t r n = rw (ne-eqb b space s, ne-eqb b tab t, ne-eqb b carriageReturn r, ne-eqb b newline n)
+
 -- Every blank and `#` stands before the digits and the letters.
 pub high-no-blank : (b : ℕ) → hash < b → isBlank b ≡ false
-unfolding isBlank pick
-high-no-blank b p = rw (ne-eqb b 32 (λ q. omega arith), ne-eqb b 9 (λ q. omega arith), ne-eqb b 13 (λ q. omega arith), ne-eqb b 10 (λ q. omega arith))
+high-no-blank b p = no-blank b (λ q. omega arith) (λ q. omega arith) (λ q. omega arith) (λ q. omega arith)
 
 pub high-solid : (b : ℕ) (bs : List ℕ) → hash < b → blanks (b ∷ bs) ≡ b ∷ bs
 high-solid b bs p = blanks-solid b bs (high-no-blank b p) (λ q. omega arith)
@@ -195,10 +198,11 @@ number-read limit n {ys} p q s =
 
 pub plain-byte : (b : ℕ) → isEscaped b ≡ false → (eqb b quote ≡ false) × (eqb b backslash ≡ false)
 unfolding isEscaped pick
-plain-byte b e = go (eqb b quote) e where
-  go : (t : Bool) → pick t true (eqb b backslash) ≡ false → (t ≡ false) × (eqb b backslash ≡ false)
-  go true h = let z : _≡_ {A = ℕ} 0 1 = cc in absurd (omega arith)
-  go false h = (refl, h)
+plain-byte b e = go (eqb b quote) (eqb b backslash) e where
+  go : (t u : Bool) → pick t true (pick u true false) ≡ false → (t ≡ false) × (u ≡ false)
+  go true u h = let z : _≡_ {A = ℕ} 0 1 = cc in absurd (omega arith)
+  go false true h = let z : _≡_ {A = ℕ} 0 1 = cc in absurd (omega arith)
+  go false false h = (refl, refl)
 
 labelled : (l ys : List ℕ) → All isPlain l → labelFrom false (escaped l ++ ys) ≡ got l ys
 unfolding labelFrom escaped withByte pick

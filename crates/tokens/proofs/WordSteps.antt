@@ -6,28 +6,16 @@ use mathlib.Core.List.{List, [], _∷_}
 use Prim.Native.Nat.{ℕ, suc, _+_, _-_, _<_, _≤_}
 use native.Mathlib.Omega.{arith}
 use lib.ListN.{length, drop, getD, drop-of-length-le}
-use lib.Dec.{leb, eqb·suc-suc}
-use borrow.Author.Tests.{le-leb, eq-eqb, ne-eqb}
+use lib.Dec.{eqb·suc-suc}
+use borrow.Author.Tests.{eq-eqb, ne-eqb}
 use borrow.Author.Needs.{needs}
-use Rattle.base.specs.Tests.{pick, every, between}
-use Rattle.base.proofs.TestLaws.{every-pass, every-stop, every-last, told-true, told-false, between-under}
+use Rattle.base.specs.Tests.{pick, every}
+use Rattle.base.proofs.TestLaws.{every-stop, told-true, told-false}
 use Rattle.ascii.specs.Words.{begins, same}
 use Rattle.ascii.proofs.WordSteps.{drop-next}
 use Rattle.ascii.proofs.NumberSteps.{not-two}
-use Rattle.tokens.specs.Bytes.{letterA, letterZ, isLetter}
+use Rattle.tokens.specs.Bytes.{isLetter}
 use Rattle.tokens.specs.Tokens.{leading, isWord}
-
--- ---- a letter
-
-pub letter-under : (b : ℕ) → b < letterA → false ≡ isLetter b
-unfolding isLetter
-letter-under b p = sym (between-under letterA letterZ b p)
-
-pub letter-last : (b : ℕ) → letterA ≤ b → leb b letterZ ≡ isLetter b
-unfolding isLetter between
-letter-last b p = every-pass _ _ _ (le-leb letterA b p) (every-last _ _ refl)
-
-pub ruleset letter-tests = (letter-under, letter-last, needs)
 
 -- ---- the same bytes, one by one
 

@@ -4,8 +4,8 @@ use mathlib.Core.Path.{_≡_}
 use mathlib.Core.Bool.{Bool, true, false, not}
 use mathlib.Core.List.{List, [], _∷_}
 use lib.Dec.{eqb}
-use Rattle.base.specs.Tests.{pick, between}
-use Rattle.ascii.specs.Words.{newline, space, zeroDigit, nineDigit}
+use Rattle.base.specs.Tests.{oneOf, between}
+use Rattle.ascii.specs.Words.{newline, space}
 
 abbrev pub tab : ℕ
 tab = 9
@@ -39,11 +39,7 @@ closing = 125
 
 -- "blanks: space, tab, carriage return, newline"
 unfoldable pub isBlank : ℕ → Bool
-isBlank b = pick (eqb b space) true (pick (eqb b tab) true (pick (eqb b carriageReturn) true (eqb b newline)))
-
--- "1 to 10 digits"
-unfoldable pub isDigit : ℕ → Bool
-isDigit b = between zeroDigit nineDigit b
+isBlank b = oneOf (space ∷ tab ∷ carriageReturn ∷ newline ∷ []) b
 
 -- "its letters (a to z)"
 unfoldable pub isLetter : ℕ → Bool
@@ -55,7 +51,7 @@ isPlain b = not (eqb b newline)
 
 -- A byte that a backslash may stand before: "'\"' | '\\'"
 unfoldable pub isEscaped : ℕ → Bool
-isEscaped b = pick (eqb b quote) true (eqb b backslash)
+isEscaped b = oneOf (quote ∷ backslash ∷ []) b
 
 -- Every byte is of this kind.
 pub data All (p : ℕ → Bool) : List ℕ → Type 0 where

@@ -7,8 +7,8 @@ use lib.Dec.{eqb, ltb}
 use lib.ListN.{length}
 use Rattle.base.specs.Tests.{pick, every, between}
 use Rattle.ascii.specs.Words.{newline, same}
-use Rattle.ascii.specs.Numbers.{mostDigits, value}
-use Rattle.tokens.specs.Bytes.{quote, hash, backslash, isBlank, isDigit, isLetter, isEscaped}
+use Rattle.ascii.specs.Numbers.{mostDigits, isDigit, value}
+use Rattle.tokens.specs.Bytes.{quote, hash, backslash, isBlank, isLetter, isEscaped}
 
 -- "The text is read from front to back and the first fault met decides".
 pub data Read (A : Type 0) : Type 0 where

@@ -12,16 +12,13 @@ const HASH: u8 = b'#';
 fn is_blank(b: u8) -> bool
     ensures { λ r. ⌜ r ≡ isBlank b ⌝ }
 {
-    if b == SPACE {
-        return true;
+    match b {
+        b' ' => true,
+        b'\t' => true,
+        b'\r' => true,
+        b'\n' => true,
+        _ => false,
     }
-    if b == b'\t' {
-        return true;
-    }
-    if b == b'\r' {
-        return true;
-    }
-    b == NEWLINE
 }
 
 // The newline that ends the line of a comment, from within it, or the text's end.

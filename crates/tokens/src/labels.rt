@@ -14,13 +14,15 @@ const QUOTE: u8 = b'"';
 
 const BACKSLASH: u8 = b'\\';
 
-fn is_escaped(b: u8) -> bool
+// A byte that a backslash may stand before: "'\"' | '\\'".
+pub fn is_escaped(b: u8) -> bool
     ensures { λ r. ⌜ r ≡ isEscaped b ⌝ }
 {
-    if b == QUOTE {
-        return true;
+    match b {
+        b'"' => true,
+        b'\\' => true,
+        _ => false,
     }
-    b == BACKSLASH
 }
 
 // How many bytes the label from `at` on stands for.

@@ -2,10 +2,10 @@
 ghost use mathlib.Core.Path.{_≡_};
 ghost use Prim.Native.Nat.{_+_, _≤_, _<_, _^_};
 ghost use lib.ListN.{length, drop};
-ghost use Rattle.tokens.specs.Bytes.{isDigit};
 ghost use Rattle.tokens.specs.Tokens.{number};
 ghost use Rattle.tokens.specs.Asked.{stopped, endedAs, Reads};
 use crate::Token;
+use ascii::is_digit;
 
 const MOST_DIGITS: usize = 10;
 
@@ -18,15 +18,6 @@ pub fn stop(at: usize) -> Token
         value: 0,
         next: at,
     }
-}
-
-fn is_digit(b: u8) -> bool
-    ensures { λ r. ⌜ r ≡ isDigit b ⌝ }
-{
-    if b < b'0' {
-        return false;
-    }
-    b <= b'9'
 }
 
 // The n digits from `at` on were all there are.

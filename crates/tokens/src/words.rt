@@ -8,10 +8,10 @@ ghost use Rattle.tokens.specs.Tokens.{isWord};
 pub fn is_letter(b: u8) -> bool
     ensures { λ r. ⌜ r ≡ isLetter b ⌝ }
 {
-    if b < b'a' {
-        return false;
+    match b {
+        b'a'..=b'z' => true,
+        _ => false,
     }
-    b <= b'z'
 }
 
 // Whether this word stands at `at`.

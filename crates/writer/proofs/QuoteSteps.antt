@@ -1,6 +1,6 @@
 -- Each step of a label in quotes, in the code's own terms. The invariant: what is owed of the bytes left completes the label.
 -- Assumes nothing.
-use mathlib.Core.Path.{_≡_, refl}
+use mathlib.Core.Path.{_≡_, refl, sym, _∙_}
 use mathlib.Core.Bool.{Bool, true, false}
 use mathlib.Core.List.{List, [], _∷_, _++_}
 use Prim.Native.Nat.{ℕ, suc, _+_, _<_, _≤_}
@@ -8,7 +8,6 @@ use native.Mathlib.Numerals.{add-one}
 use native.Mathlib.Omega.{arith}
 use lib.ListN.{length, drop, getD, drop-of-length-le}
 use lib.Seq.{drop-cons}
-use borrow.Author.Tests.{eq-eqb, ne-eqb}
 use borrow.Author.Needs.{needs}
 use Rattle.base.specs.Tests.{pick}
 use Rattle.ascii.specs.Laying.{Laid}
@@ -30,40 +29,30 @@ pub ruleset pairs = (second-room, two-laid, needs)
 
 -- ---- one byte of the label
 
-module _ (b : ℕ) where
-  marked-quote : b ≡ quote → marked b ≡ backslash ∷ b ∷ []
-  unfolding marked isEscaped pick
-  marked-quote e = rw (eq-eqb b quote e)
+module _ (b : ℕ) (t : Bool) (told : t ≡ isEscaped b) where
+  marked-escaped : t ≡ true → marked b ≡ backslash ∷ b ∷ []
+  unfolding marked pick
+  marked-escaped p = rw (sym told ∙ p)
 
-  marked-backslash : (b ≡ quote → ⊥) → b ≡ backslash → marked b ≡ backslash ∷ b ∷ []
-  unfolding marked isEscaped pick
-  marked-backslash n e = rw (ne-eqb b quote n, eq-eqb b backslash e)
-
-  marked-plain : (b ≡ quote → ⊥) → (b ≡ backslash → ⊥) → marked b ≡ b ∷ []
-  unfolding marked isEscaped pick
-  marked-plain n m = rw (ne-eqb b quote n, ne-eqb b backslash m)
+  marked-plain : t ≡ false → marked b ≡ b ∷ []
+  unfolding marked pick
+  marked-plain p = rw (sym told ∙ p)
 
   module _ (o : List ℕ) (at : ℕ) where
-    pub mark-room : b ≡ quote → at + length (marked b) ≤ length o → at + 2 ≤ length o
-    mark-room e p = rw (marked-quote e) at p
+    pub escaped-room : t ≡ true → at + length (marked b) ≤ length o → at + 2 ≤ length o
+    escaped-room p q = rw (marked-escaped p) at q
 
-    pub backslash-room : (b ≡ quote → ⊥) → b ≡ backslash → at + length (marked b) ≤ length o → at + 2 ≤ length o
-    backslash-room n e p = rw (marked-backslash n e) at p
-
-    pub plain-room : (b ≡ quote → ⊥) → (b ≡ backslash → ⊥) → at + length (marked b) ≤ length o → at + 1 ≤ length o
-    plain-room n m p = rw (marked-plain n m) at p
+    pub plain-room : t ≡ false → at + length (marked b) ≤ length o → at + 1 ≤ length o
+    plain-room p q = rw (marked-plain p) at q
 
     module _ (new : List ℕ) (r : ℕ) where
-      pub quote-laid : b ≡ quote → Laid o at (backslash ∷ b ∷ []) new r → Laid o at (marked b) new r
-      quote-laid e l = rw (marked-quote e) l
+      pub escaped-laid : t ≡ true → Laid o at (backslash ∷ b ∷ []) new r → Laid o at (marked b) new r
+      escaped-laid p l = rw (marked-escaped p) l
 
-      pub backslash-laid : (b ≡ quote → ⊥) → b ≡ backslash → Laid o at (backslash ∷ b ∷ []) new r → Laid o at (marked b) new r
-      backslash-laid n e l = rw (marked-backslash n e) l
+      pub plain-laid : t ≡ false → Laid o at (b ∷ []) new r → Laid o at (marked b) new r
+      plain-laid p l = rw (marked-plain p) l
 
-      pub plain-laid : (b ≡ quote → ⊥) → (b ≡ backslash → ⊥) → Laid o at (b ∷ []) new r → Laid o at (marked b) new r
-      plain-laid n m l = rw (marked-plain n m) l
-
-pub ruleset marks = (mark-room, backslash-room, plain-room, quote-laid, backslash-laid, plain-laid, needs)
+pub ruleset marks = (escaped-room, plain-room, escaped-laid, plain-laid, needs)
 
 -- ---- the label
 

@@ -7,6 +7,7 @@ ghost use Rattle.tokens.specs.Bytes.{backslash};
 ghost use Rattle.tokens.specs.Quoted.{escaped, quoted};
 ghost use Rattle.writer.specs.Phrases.{marked};
 use ascii::put_byte;
+use tokens::is_escaped;
 
 const QUOTE: u8 = b'"';
 
@@ -25,10 +26,7 @@ fn put_marked(out: &mut [u8], at: usize, b: u8) -> usize
     requires { ⌜ at + length (marked b) ≤ length (now out) ⌝ }
     ensures { λ r. ⌜ Laid (now (out .entry)) at (marked b) (now (out .exit)) r ⌝ }
 {
-    if b == QUOTE {
-        return put_behind_backslash(out, at, b);
-    }
-    if b == BACKSLASH {
+    if is_escaped(b) {
         return put_behind_backslash(out, at, b);
     }
     put_byte(out, at, b)

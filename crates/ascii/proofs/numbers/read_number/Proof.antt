@@ -17,8 +17,8 @@ abbrev μ-loop : tie.MeasureT-loop
 loop-again : tie.Need-loop-again Inv-loop μ-loop
 loop-again c = search reading
 
-returns-5 : tie.Need-returns-5 Inv-loop μ-loop
-returns-5 c = search reading
+returns-4 : tie.Need-returns-4 Inv-loop μ-loop
+returns-4 c = search reading
 
 pub read-number-spec : {M : Type 1} → statement M
 read-number-spec =
@@ -30,6 +30,7 @@ read-number-spec =
     (λ c. search reading)
     (λ c. search reading)
     (λ c. search reading)
+    (λ c κs. search reading)
     (λ c. search reading)
     (λ c. search reading)
     (λ c. search reading)
@@ -38,4 +39,4 @@ read-number-spec =
     (λ c. search reading)
     (λ c. search reading)
     loop-again
-    returns-5)
+    returns-4)

@@ -1,4 +1,4 @@
--- Each test in turn.
+-- Each arm in turn.
 -- Assumes nothing.
 use Rattle.tokens.proofs.BlankSteps.{blank-tests}
 use Rattle.tokens.proofs.blanks.is_blank.Statement.{statement}
@@ -8,6 +8,7 @@ pub is-blank-spec : {M : Type 1} → statement M
 is-blank-spec =
     tie.close
     (tie.spec
+    (λ c. search blank-tests)
     (λ c. search blank-tests)
     (λ c. search blank-tests)
     (λ c. search blank-tests)

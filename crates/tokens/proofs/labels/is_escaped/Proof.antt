@@ -1,4 +1,4 @@
--- Each test in turn.
+-- Each arm in turn.
 -- Assumes nothing.
 use Rattle.tokens.proofs.LabelSteps.{escaped-tests}
 use Rattle.tokens.proofs.labels.is_escaped.Statement.{statement}
@@ -8,5 +8,6 @@ pub is-escaped-spec : {M : Type 1} → statement M
 is-escaped-spec =
     tie.close
     (tie.spec
+    (λ c. search escaped-tests)
     (λ c. search escaped-tests)
     (λ c. search escaped-tests))

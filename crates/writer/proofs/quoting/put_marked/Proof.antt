@@ -9,8 +9,6 @@ put-marked-spec =
     tie.close
     (tie.spec
     (λ c κs. search marks)
-    (λ c. search marks)
-    (λ c. search marks)
     (λ c κs. search marks)
     (λ c. search marks)
     (λ c. search marks)
