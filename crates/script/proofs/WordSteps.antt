@@ -7,7 +7,6 @@ use Prim.Native.Nat.{ℕ, _+_, _<_, _≤_}
 use native.Mathlib.Omega.{arith}
 use lib.ListN.{length, drop, length-drop}
 use lib.Seq.{drop-drop}
-use borrow.Author.Tests.{eq-eqb, ne-eqb}
 use borrow.Author.Needs.{needs}
 use Rattle.base.specs.Tests.{pick}
 use Rattle.tokens.specs.Tokens.{isWord}
@@ -15,6 +14,8 @@ use Rattle.tokens.specs.Asked.{Passes}
 use Rattle.tokens.proofs.ShorterLaws.{word-behind}
 use Rattle.text.specs.Words.{eventWord, partWord, sendWord, groupWord, looseWord, tightWord, localWord, globalWord, partialWord, causalWord}
 use Rattle.text.specs.Grammar.{pastWord, synchronyAt, errorAt}
+use Rattle.text.specs.Written.{errorWord}
+use Rattle.text.proofs.WordLaws.{local-is, global-is, partial-is, causal-is}
 use Rattle.script.specs.Steps.{Stands, errorSize, PassesWord}
 
 -- ---- past a word
@@ -72,19 +73,22 @@ pub ruleset errors = (error-local, error-global, error-partial, error-causal, er
 
 module _ (v : ℕ) where
   pub size-local : v ≡ 0 → 5 ≡ errorSize v
-  unfolding errorSize pick
-  size-local e = rw (eq-eqb v 0 e)
+  unfolding errorSize
+  size-local e = rw (local-is v e)
 
-  module _ (n : v ≡ 0 → ⊥) where
-    pub size-partial : v ≡ 2 → 7 ≡ errorSize v
-    unfolding errorSize pick
-    size-partial e = rw (ne-eqb v 0 n, eq-eqb v 2 e)
+  pub size-global : v ≡ 1 → 6 ≡ errorSize v
+  unfolding errorSize
+  size-global e = rw (global-is v e)
 
-    pub size-other : (v ≡ 2 → ⊥) → 6 ≡ errorSize v
-    unfolding errorSize pick
-    size-other e = rw (ne-eqb v 0 n, ne-eqb v 2 e)
+  pub size-partial : v ≡ 2 → 7 ≡ errorSize v
+  unfolding errorSize
+  size-partial e = rw (partial-is v e)
 
-pub ruleset sizes = (size-local, size-partial, size-other, needs)
+  pub size-causal : (v ≡ 0 → ⊥) → (v ≡ 1 → ⊥) → (v ≡ 2 → ⊥) → 6 ≡ errorSize v
+  unfolding errorSize
+  size-causal a b c = rw (causal-is v a b c)
+
+pub ruleset sizes = (size-local, size-global, size-partial, size-causal, needs)
 
 -- ---- a word that was found stands there with all its letters
 
@@ -116,7 +120,7 @@ module _ (t : List ℕ) (at : ℕ) (start : at ≤ length t) where
     go false e false f h = absurd (omega arith)
 
   pub error-stands : (v size : ℕ) → v ≡ errorAt (drop at t) → v < 4 → size ≡ errorSize v → Stands t at size
-  unfolding errorAt errorSize pick
+  unfolding errorAt errorSize errorWord pick
   error-stands v size told p sized =
       go (isWord localWord (drop at t)) refl (isWord globalWord (drop at t)) refl (isWord partialWord (drop at t)) refl (isWord causalWord (drop at t)) refl told where
         go : (a : Bool) → isWord localWord (drop at t) ≡ a → (b : Bool) → isWord globalWord (drop at t) ≡ b → (c : Bool) → isWord partialWord (drop at t) ≡ c

@@ -4,12 +4,11 @@ use mathlib.Core.Path.{_≡_}
 use mathlib.Core.Bool.{Bool, true, false}
 use mathlib.Core.List.{List}
 use lib.ListN.{length, drop}
-use lib.Dec.{eqb}
-use Rattle.base.specs.Tests.{pick}
 use Rattle.tokens.specs.Bytes.{isLetter}
 use Rattle.tokens.specs.Tokens.{Read, got, stop, behind, label, isRead, bytesIn}
 use Rattle.tokens.specs.Beats.{field}
 use Rattle.text.specs.Words.{messageField, partField}
+use Rattle.text.specs.Written.{errorWord}
 use Rattle.text.specs.Grammar.{Line, heading, message, event, part, send, group, close, pastWord}
 use Rattle.script.specs.declared.Found.{Found}
 use Rattle.script.specs.declared.Found.the-variants.{Heading, Message, Event, Part, Send, Group, Close, Fault}
@@ -22,7 +21,7 @@ pub record Stands (t : List ℕ) (at size : ℕ) : Type 0 where
 
 -- How many letters the error word of this number has.
 unfoldable pub errorSize : ℕ → ℕ
-errorSize v = pick (eqb v 0) 5 (pick (eqb v 2) 7 6)
+errorSize v = length (errorWord v)
 
 -- What is left behind a word, and the blanks behind it.
 pub record PassesWord (t : List ℕ) (at r : ℕ) : Type 0 where

@@ -53,11 +53,10 @@ pub fn error_at(text: &[u8], at: usize) -> u64
 pub fn error_size(error: u64) -> usize
     ensures { λ r. ⌜ r ≡ errorSize error ⌝ }
 {
-    if error == 0 {
-        return 5;
+    match error {
+        0 => 5,
+        1 => 6,
+        2 => 7,
+        _ => 6,
     }
-    if error == 2 {
-        return 7;
-    }
-    6
 }

@@ -1,5 +1,6 @@
 -- Laws of the text form.
 mod ReplySteps
+pub mod WordLaws
 pub mod BeatsLaws
 pub mod LineSizes
 pub mod SizeLaws

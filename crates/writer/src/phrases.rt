@@ -53,26 +53,22 @@ fn put_synchrony(out: &mut [u8], at: usize, synchrony: usize) -> usize
     requires { ⌜ at + length (synchronyWord synchrony) ≤ length (now out) ⌝ }
     ensures { λ r. ⌜ Laid (now (out .entry)) at (synchronyWord synchrony) (now (out .exit)) r ⌝ }
 {
-    if synchrony == 0 {
-        return put_bytes(out, at, b"loose");
+    match synchrony {
+        0 => put_bytes(out, at, b"loose"),
+        _ => put_bytes(out, at, b"tight"),
     }
-    put_bytes(out, at, b"tight")
 }
 
 fn put_error(out: &mut [u8], at: usize, error: usize) -> usize
     requires { ⌜ at + length (errorWord error) ≤ length (now out) ⌝ }
     ensures { λ r. ⌜ Laid (now (out .entry)) at (errorWord error) (now (out .exit)) r ⌝ }
 {
-    if error == 0 {
-        return put_bytes(out, at, b"local");
+    match error {
+        0 => put_bytes(out, at, b"local"),
+        1 => put_bytes(out, at, b"global"),
+        2 => put_bytes(out, at, b"partial"),
+        _ => put_bytes(out, at, b"causal"),
     }
-    if error == 1 {
-        return put_bytes(out, at, b"global");
-    }
-    if error == 2 {
-        return put_bytes(out, at, b"partial");
-    }
-    put_bytes(out, at, b"causal")
 }
 
 fn put_group_words(out: &mut [u8], at: usize, synchrony: usize, error: usize) -> usize

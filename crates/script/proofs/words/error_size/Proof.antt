@@ -10,4 +10,5 @@ error-size-spec =
     (tie.spec
     (λ c. search sizes)
     (λ c. search sizes)
+    (λ c. search sizes)
     (λ c. search sizes))

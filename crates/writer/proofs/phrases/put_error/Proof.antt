@@ -23,16 +23,16 @@ put-error-spec =
     (λ c. search words)
     (λ c κs. search words)
     (λ c. search words)
-    returns
+    (λ c κs. search words)
     (λ c. search words)
     (λ c κs. search words)
+    (λ c. search words)
+    (λ c κs. search words)
+    (λ c. search words)
+    returns
     (λ c. search words)
     returns-2
     (λ c. search words)
-    (λ c κs. search words)
-    (λ c. search words)
     returns-3
-    (λ c. search words)
-    (λ c κs. search words)
     (λ c. search words)
     returns-4)
