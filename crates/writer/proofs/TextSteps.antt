@@ -4,7 +4,7 @@ use mathlib.Core.Path.{_≡_, refl, sym, ap, _∙_}
 use mathlib.Core.List.{List, [], _++_, append-nil}
 use Prim.Native.Nat.{ℕ, _+_, _<_, _≤_}
 use native.Mathlib.Omega.{arith}
-use lib.ListN.{length, take, drop, take-append-drop}
+use lib.ListN.{length, take, drop, replicate, take-append-drop, length-replicate}
 use lib.Seq.{length-take-le}
 use borrow.Author.Tests.{le-leb, lt-leb}
 use borrow.Author.Needs.{needs}
@@ -84,8 +84,11 @@ pub ruleset rooms = (whole-short, short-left, whole-made, whole-left, needs)
 
 -- ---- an accepted file
 
-pub text-fits : (f : List ℕ) → Accepted f → length (written (decode f)) ≤ textRoom
+text-fits : (f : List ℕ) → Accepted f → length (written (decode f)) ≤ textRoom
 text-fits f a = text-short (decode f) (decode-lawful f a)
+
+pub array-fits : (f : List ℕ) → Accepted f → length (written (decode f)) ≤ length (replicate {0} {A = ℕ} textRoom 0)
+array-fits f a = rw (length-replicate {0} {A = ℕ} textRoom 0) (text-fits f a)
 
 pub front-count : (p : Piece) (o new : List ℕ) (r : ℕ) → Laid o 0 (written p) new r → length (take r new) ≡ r
 front-count p o new r laid = length-take-le r new (laid .within)
