@@ -11,9 +11,9 @@ use lib.Dec.{leb}
 use borrow.Author.Tests.{le-leb, leb-true, leb-false}
 use Rattle.base.specs.Checks.{Check, fine, refused}
 use Rattle.contents.specs.declared.Fault.{Fault}
-use Rattle.contents.specs.Limits.{contentsSize}
+use Rattle.contents.specs.Limits.{contentsSize, longestScore}
 use Rattle.score.specs.File.{checked}
-use Rattle.score.proofs.LongFile.{longestScore, fileRoom, long-refused, counts-cut, checked-cut}
+use Rattle.score.proofs.LongFile.{fileRoom, long-refused, counts-cut, checked-cut}
 use Rattle.session.specs.declared.Refusal.{Refusal}
 use Rattle.refusals.specs.Entries.{entryOf}
 use Rattle.refusals.specs.Line.{whereWords, refusalLine}

@@ -10,7 +10,8 @@ use lib.Seq.{take-all}
 use lib.Dec.{leb}
 use borrow.Author.Tests.{leb-true, leb-false}
 use Rattle.base.specs.Checks.{Check, fine, refused}
-use Rattle.score.proofs.LongFile.{longestScore, fileRoom, long-refused, checked-cut}
+use Rattle.contents.specs.Limits.{longestScore}
+use Rattle.score.proofs.LongFile.{fileRoom, long-refused, checked-cut}
 use Rattle.rules.specs.Terms.{Terms}
 use Rattle.session.specs.declared.Refusal.{Refusal}
 use Rattle.session.specs.Layout.{memorySize}

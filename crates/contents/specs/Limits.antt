@@ -48,3 +48,7 @@ mostText = 24576
 -- "Length 1 to 48."
 abbrev pub longestLabel : ℕ
 longestLabel = 48
+
+-- The longest score: its contents, and each body at its limit.
+abbrev pub longestScore : ℕ
+longestScore = 52256

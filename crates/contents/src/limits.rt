@@ -26,3 +26,6 @@ pub const MOST_MESSAGES: usize = 512;
 pub const MOST_TEXT: usize = 24576;
 
 pub const LONGEST_LABEL: usize = 48;
+
+// Of a whole file.
+pub const LONGEST_SCORE: usize = 52256;

@@ -17,7 +17,7 @@ use Rattle.contents.specs.declared.Counts.{Counts}
 use Rattle.contents.specs.declared.Fault.{Fault}
 use Rattle.contents.specs.declared.Verdict.{Verdict}
 use Rattle.contents.specs.declared.Verdict.the-variants.{Fine, Refused}
-use Rattle.contents.specs.Limits.{eventSize, itemSize, messageSize, mostEvents, mostItems, mostMessages, mostText}
+use Rattle.contents.specs.Limits.{eventSize, itemSize, messageSize, mostEvents, mostItems, mostMessages, mostText, longestScore}
 use Rattle.contents.specs.Contents.{countsRight}
 use Rattle.contents.specs.Inner.{Counted}
 use Rattle.contents.specs.Replies.{verdictOf}
@@ -33,7 +33,7 @@ use Rattle.text.specs.declared.Transcript.{Transcript}
 use Rattle.text.specs.declared.Transcript.the-variants.{Made, NoRoom, BadText, BadFile}
 use Rattle.text.specs.Grammar.{Script, done, more, fault, script}
 use Rattle.text.specs.Said.{pieceOf, Reading, piece, unread, told, said}
-use Rattle.text.specs.Transcripts.{roomLeft, fileRoom, pieceRight, judged, faultAt, answered, fileOf, readAnswer}
+use Rattle.text.specs.Transcripts.{roomLeft, pieceRight, judged, faultAt, answered, fileOf, readAnswer}
 use Rattle.script.specs.declared.Tally.{Tally}
 use Rattle.script.specs.declared.Tally.the-variants as tally
 use Rattle.script.specs.Tallies.{tallyOf}
@@ -134,11 +134,11 @@ module _ (t : List ℕ) (c : Counts) (m : List ℕ) (asked : Sayable t c m) wher
       let z : countsRight (countsIn (pieceOf (script Start t))) ≡ refused x = says-counts ∙ verdict-refused (countsRight c) v x e p in
       record { answer = rw (asked .says, z); left = refl }
 
-  pub make-asked : Counted c → (file : List ℕ) → fileRoom ≤ length file → Writable t c file
+  pub make-asked : Counted c → (file : List ℕ) → longestScore ≤ length file → Writable t c file
   make-asked k file r = record { told = record { balanced = asked .balanced; counted = rw (asked .counts) at k }; counts = asked .counts; room = r }
 
   -- room for the largest file holds it
-  pub put-room : Counted c → (file file′ o : List ℕ) (size : ℕ) → Laid file 0 (encode (pieceOf (script Start t))) file′ size → fileRoom ≤ length o → length (take size file′) ≤ length o
+  pub put-room : Counted c → (file file′ o : List ℕ) (size : ℕ) → Laid file 0 (encode (pieceOf (script Start t))) file′ size → longestScore ≤ length o → length (take size file′) ≤ length o
   put-room k file file′ o size laid r =
       let k′ : Counted (countsIn (pieceOf (script Start t))) = rw (asked .counts) at k in
       omega (
@@ -183,9 +183,9 @@ unread-within size at p (more l s) e = unread-within size at p s e
 unread-within size at p (fault left) e = let z : size - length left ≡ at = cc in omega arith
 
 module _ (t m : List ℕ) where
-  pub read-short : length m < fileRoom → NoRoom ≡ readAnswer (length m) t
+  pub read-short : length m < longestScore → NoRoom ≡ readAnswer (length m) t
   unfolding readAnswer pick
-  read-short p = rw (lt-leb fileRoom (length m) p)
+  read-short p = rw (lt-leb longestScore (length m) p)
 
   pub left-short : m ≡ roomLeft NoRoom (fileOf (said t)) m
   unfolding roomLeft
@@ -204,9 +204,9 @@ module _ (t m : List ℕ) where
       unfolding said
       fault-within = unread-within (length t) at (pieceOf (script Start t)) (script Start t) is-unread
 
-      pub read-fault : (r : Transcript) → fileRoom ≤ length m → r ≡ faultAt (placeBehind (take at t)) → r ≡ readAnswer (length m) t
+      pub read-fault : (r : Transcript) → longestScore ≤ length m → r ≡ faultAt (placeBehind (take at t)) → r ≡ readAnswer (length m) t
       unfolding readAnswer pick answered
-      read-fault r p q = rw (le-leb fileRoom (length m) p, is-unread) q
+      read-fault r p q = rw (le-leb longestScore (length m) p, is-unread) q
 
       pub left-fault : (r : Transcript) → r ≡ faultAt (placeBehind (take at t)) → m ≡ roomLeft r (fileOf (said t)) m
       unfolding roomLeft faultAt
@@ -216,13 +216,13 @@ module _ (t m : List ℕ) where
       told-counts : tally.Counted c ≡ tallyOf (said t)
       told-counts = sym k ∙ found
 
-      pub read-asked : fileRoom ≤ length m → Sayable t c m
+      pub read-asked : longestScore ≤ length m → Sayable t c m
       read-asked p = record { balanced = counted-balanced t c told-counts; says = counted-said t c told-counts; counts = counts-said t c told-counts; room = p }
 
   module _ (m′ : List ℕ) (r : Transcript) (a : Answers t m m′ r) where
-    pub read-told : fileRoom ≤ length m → r ≡ readAnswer (length m) t
+    pub read-told : longestScore ≤ length m → r ≡ readAnswer (length m) t
     unfolding readAnswer pick
-    read-told p = rw (le-leb fileRoom (length m) p) (a .answer)
+    read-told p = rw (le-leb longestScore (length m) p) (a .answer)
 
     pub left-told : m′ ≡ roomLeft r (fileOf (said t)) m
     left-told = a .left

@@ -5,7 +5,7 @@ use mathlib.Core.List.{List}
 use lib.ListN.{length, take, drop}
 use Rattle.tokens.specs.Beats.{field}
 use Rattle.contents.specs.declared.Counts.{Counts}
-use Rattle.contents.specs.Limits.{eventSize, itemSize, messageSize, mostEvents, mostItems, mostMessages, mostText}
+use Rattle.contents.specs.Limits.{eventSize, itemSize, messageSize, mostEvents, mostItems, mostMessages, mostText, longestScore}
 use Rattle.contents.specs.Inner.{Counted}
 use Rattle.score.specs.Encode.{durationBytes, itemBytes, entryBytes, textBytes, countsIn}
 use Rattle.score.specs.File.{checked}
@@ -15,7 +15,7 @@ use Rattle.text.specs.declared.Stage.the-variants.{Start, Listing}
 use Rattle.text.specs.Grammar.{script}
 use Rattle.text.specs.declared.Transcript.{Transcript}
 use Rattle.text.specs.Said.{labelsOf, durationsOf, itemsOf, pieceOf, piece, said}
-use Rattle.text.specs.Transcripts.{fileRoom, judged, answered, roomLeft, fileOf}
+use Rattle.text.specs.Transcripts.{judged, answered, roomLeft, fileOf}
 use Rattle.reader.specs.Turns.{Turnable}
 
 -- The text has no fault, and no more of anything than a file may have.
@@ -75,7 +75,7 @@ pub record Bodies (c : Counts) (durations items entries labels out : List ℕ) :
   pub counted : Counted c
   pub page : PageRoom durations items
   pub list : ListRoom entries labels
-  pub room : fileRoom ≤ length out
+  pub room : longestScore ≤ length out
 
 -- The file of the bodies at the fronts of these bytes.
 unfoldable pub fileIn : Counts → (durations items entries labels : List ℕ) → List ℕ
@@ -85,7 +85,7 @@ fileIn c d m e l = filed c (take (eventSize * c .events) d) (take (itemSize * c 
 pub record Writable (t : List ℕ) (c : Counts) (out : List ℕ) : Type 0 where
   pub told : Tellable t
   pub counts : c ≡ countsIn (pieceOf (script Start t))
-  pub room : fileRoom ≤ length out
+  pub room : longestScore ≤ length out
 
 -- ---- the answer
 
@@ -99,7 +99,7 @@ pub record Sayable (t : List ℕ) (c : Counts) (m : List ℕ) : Type 0 where
   pub balanced : Balanced Start (script Start t)
   pub says : said t ≡ piece (pieceOf (script Start t))
   pub counts : c ≡ countsIn (pieceOf (script Start t))
-  pub room : fileRoom ≤ length m
+  pub room : longestScore ≤ length m
 
 -- What is told of it, and what then stands in the room.
 pub record Answers (t m new : List ℕ) (r : Transcript) : Type 0 where

@@ -4,7 +4,7 @@ ghost use mathlib.Core.Path.{_≡_};
 ghost use lib.ListN.{length};
 ghost use Rattle.text.specs.Said.{said};
 ghost use Rattle.text.specs.Transcripts.{readAnswer, roomLeft, fileOf};
-pub use making::FILE_ROOM;
+use contents::limits::LONGEST_SCORE;
 use making::fault;
 use making::judge;
 use script::Tally;
@@ -21,7 +21,7 @@ pub fn read_text(text: &[u8], room: &mut [u8]) -> Transcript
     ensures { λ r. ⌜ r ≡ readAnswer (length (now (room .entry))) (now (text .entry)) ⌝ }
     ensures { λ r. ⌜ now (room .exit) ≡ roomLeft r (fileOf (said (now (text .entry)))) (now (room .entry)) ⌝ }
 {
-    if room.len() < FILE_ROOM {
+    if room.len() < LONGEST_SCORE {
         return Transcript::NoRoom;
     }
     let found = tally_text(text);

@@ -8,8 +8,9 @@ ghost use Rattle.score.specs.Encode.{encode};
 ghost use Rattle.text.specs.declared.Stage.the-variants.{Start};
 ghost use Rattle.text.specs.Grammar.{script};
 ghost use Rattle.text.specs.Said.{pieceOf};
-ghost use Rattle.text.specs.Transcripts.{fileRoom, faultAt};
+ghost use Rattle.text.specs.Transcripts.{faultAt};
 ghost use Rattle.contents.specs.Inner.{Counted};
+ghost use Rattle.contents.specs.Limits.{longestScore};
 ghost use Rattle.reader.specs.Filled.{Bodies, fileIn, Writable, Settles, Sayable, Answers};
 use crate::listing::fill_list;
 use crate::paging::fill_page;
@@ -19,15 +20,14 @@ use contents::Verdict;
 use contents::check_counts;
 use contents::limits::EVENT_SIZE;
 use contents::limits::ITEM_SIZE;
+use contents::limits::LONGEST_SCORE;
 use contents::limits::MESSAGE_SIZE;
 use filing::put_file;
 use score::check_file;
 use text::Transcript;
 use tokens::place_behind;
 
-// "2 for a file room under 52,256 bytes": the largest file. Then the rooms of its bodies.
-pub const FILE_ROOM: usize = 52256;
-
+// The rooms of a file's bodies.
 const DURATIONS_ROOM: usize = 1024;
 
 const ITEMS_ROOM: usize = 24576;
@@ -93,7 +93,7 @@ fn settle(file: &[u8], room: &mut [u8]) -> Transcript
 
 // A text whose counts are right: its file is made elsewhere, and the room is touched only where it is right.
 fn make(text: &[u8], c: Counts, file: &mut [u8], room: &mut [u8]) -> Transcript
-    requires { ⌜ Sayable (now text) c (now room) × Counted c × (fileRoom ≤ length (now file)) ⌝ }
+    requires { ⌜ Sayable (now text) c (now room) × Counted c × (longestScore ≤ length (now file)) ⌝ }
     ensures { λ r. ⌜ Answers (now (text .entry)) (now (room .entry)) (now (room .exit)) r ⌝ }
 {
     let size = write_file(text, c, file);
@@ -108,7 +108,7 @@ pub fn judge(text: &[u8], c: Counts, room: &mut [u8]) -> Transcript
     let counted = check_counts(c);
     match counted {
         Verdict::Fine => {
-            let mut file = [0; FILE_ROOM];
+            let mut file = [0; LONGEST_SCORE];
             make(text, c, &mut file, room)
         }
         Verdict::Refused(fault) => Transcript::BadFile { fault },

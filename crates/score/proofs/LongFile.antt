@@ -14,17 +14,13 @@ use Rattle.contents.specs.declared.Fault.{Fault}
 use Rattle.contents.specs.declared.Fault.the-variants.{FileShort}
 use Rattle.contents.specs.declared.Counts.{Counts}
 use Rattle.contents.specs.declared.Offsets.{Offsets}
-use Rattle.contents.specs.Limits.{contentsSize}
+use Rattle.contents.specs.Limits.{contentsSize, longestScore}
 use Rattle.contents.specs.Bytes.{u16At, u32At}
 use Rattle.contents.specs.Contents.{countsOf, offsetsOf, countsRight, offsetsRight, sizeOf}
 use Rattle.contents.specs.Inner.{Counted}
 use Rattle.contents.proofs.ContentsLaws.{counts-held, offsets-held}
 use Rattle.score.specs.File.{checked}
 use Rattle.score.proofs.Accepted.{file-sized}
-
--- The longest score has 52,256 bytes.
-abbrev pub longestScore : ℕ
-longestScore = 52256
 
 -- As much of a score file as is read.
 abbrev pub fileRoom : ℕ

@@ -12,6 +12,7 @@ use Rattle.base.specs.Tests.{pick}
 use Rattle.base.specs.Checks.{Check, fine, refused}
 use Rattle.base.proofs.CheckLaws.{first-head, first-rest}
 use Rattle.contents.specs.declared.Fault.{Fault}
+use Rattle.contents.specs.Limits.{longestScore}
 use Rattle.score.specs.Piece.{Piece, decode}
 use Rattle.score.specs.File.{Accepted}
 use Rattle.score.specs.Encode.{encode, Lawful}
@@ -19,7 +20,7 @@ use Rattle.score.proofs.EncodingPieces.{fielded-lawful, decode-encode, encode-a
 use Rattle.text.specs.declared.Transcript.the-variants.{Made, NoRoom}
 use Rattle.text.specs.Said.{Reading, piece, unread, said}
 use Rattle.text.specs.Written.{written}
-use Rattle.text.specs.Transcripts.{fileRoom, pieceRight, judged, faultAt, answered, fileOf, readAnswer}
+use Rattle.text.specs.Transcripts.{pieceRight, judged, faultAt, answered, fileOf, readAnswer}
 use Rattle.text.proofs.FieldLaws.{said-fielded}
 use Rattle.text.proofs.RoundTrip.{reading-written}
 
@@ -45,20 +46,20 @@ answered-grants t n (piece p) e m = judged-grants t n p e (pieceRight p) refl m
 answered-grants t n (unread at) e m = let z : _≡_ {A = ℕ} 0 1 = cc in absurd (omega arith)
 
 module _ (room : ℕ) (t : List ℕ) (n : ℕ) (granted : readAnswer room t ≡ Made n) where
-  roomed : (b : Bool) → leb fileRoom room ≡ b → pick b (answered t (said t)) NoRoom ≡ Made n → (fileRoom ≤ room) × Grants t n
+  roomed : (b : Bool) → leb longestScore room ≡ b → pick b (answered t (said t)) NoRoom ≡ Made n → (longestScore ≤ room) × Grants t n
   unfolding pick
   roomed true e m = (leb-true _ _ e, answered-grants t n (said t) refl m)
   roomed false e m = let z : _≡_ {A = ℕ} 0 1 = cc in absurd (omega arith)
 
-  grants : (fileRoom ≤ room) × Grants t n
+  grants : (longestScore ≤ room) × Grants t n
   unfolding readAnswer
-  grants = roomed (leb fileRoom room) refl granted
+  grants = roomed (leb longestScore room) refl granted
 
   file-of : fileOf (said t) ≡ encode (grants .1 .score)
   unfolding fileOf
   file-of = rw (grants .1 .says)
 
-  pub granted-room : fileRoom ≤ room
+  pub granted-room : longestScore ≤ room
   granted-room = grants .0
 
   -- The file that it makes: it is accepted, has as many bytes as the reply says, and bytes only,

@@ -11,6 +11,7 @@ use Rattle.base.specs.Tests.{pick}
 use Rattle.ascii.specs.Words.{newline}
 use Rattle.tokens.specs.Bytes.{hash, isBlank}
 use Rattle.tokens.specs.Tokens.{Read, got, pastBlanks, blanks}
+use Rattle.contents.specs.Limits.{longestScore}
 use Rattle.score.specs.Piece.{Piece}
 use Rattle.text.specs.declared.Stage.{Stage}
 use Rattle.text.specs.declared.Stage.the-variants.{Start}
@@ -18,7 +19,7 @@ use Rattle.text.specs.declared.Transcript.{Transcript}
 use Rattle.text.specs.declared.Transcript.the-variants.{Made, NoRoom, BadText, BadFile}
 use Rattle.text.specs.Grammar.{Line, heading, message, event, part, send, group, close, after, isOver, Script, done, more, fault, follow, script}
 use Rattle.text.specs.Said.{labelsOf, durationsOf, within, itemsOf, pieceOf, Reading, piece, unread, told, said}
-use Rattle.text.specs.Transcripts.{roomLeft, fileRoom, faultAt, answered, fileOf, readAnswer}
+use Rattle.text.specs.Transcripts.{roomLeft, faultAt, answered, fileOf, readAnswer}
 use Rattle.text.specs.Layout.{inToken, squeezedFrom, squeezed, meaning, placeless}
 use Rattle.text.proofs.ScriptLaws.{line-shorter, script-follow}
 use Rattle.text.proofs.SqueezedTokens.{blanks-squeezed, Alike, alike, neither}
@@ -195,7 +196,7 @@ module _ (t u : List ℕ) (relaid : squeezed t ≡ squeezed u) where
   -- They are answered alike but for the line and column of a 16.
   pub same-answer : (room : ℕ) → placeless (readAnswer room t) ≡ placeless (readAnswer room u)
   unfolding readAnswer pick
-  same-answer room = go (leb fileRoom room) where
+  same-answer room = go (leb longestScore room) where
     go : (b : Bool) → placeless (pick b (answered t (said t)) NoRoom) ≡ placeless (pick b (answered u (said u)) NoRoom)
     go true = answered-same t u (said t) (said u) same-meaning
     go false = refl

@@ -13,7 +13,7 @@ use Rattle.base.proofs.TestLaws.{every-head, every-rest, between-high}
 use Rattle.base.proofs.CheckLaws.{first-head, first-rest, first-holds}
 use Rattle.ascii.specs.Words.{newline}
 use Rattle.contents.specs.declared.Fault.the-variants.{BadEvent}
-use Rattle.contents.specs.Limits.{eventSize, longest}
+use Rattle.contents.specs.Limits.{eventSize, longest, longestScore}
 use Rattle.contents.specs.Contents.{eventsAt}
 use Rattle.contents.specs.Inner.{Counted}
 use Rattle.contents.proofs.ContentsLaws.{counts-held}
@@ -34,7 +34,7 @@ use Rattle.text.specs.Words.{anyNumber}
 use Rattle.text.specs.Grammar.{Line, further, after, script}
 use Rattle.text.specs.Said.{labelsOf, durationsOf, itemsOf, pieceOf, piece, told, said}
 use Rattle.text.specs.Written.{Spot, behindLine, pageLines, messageLines, lines, outset, written}
-use Rattle.text.specs.Transcripts.{fileRoom, pieceRight, judged, answered, fileOf, readAnswer}
+use Rattle.text.specs.Transcripts.{pieceRight, judged, answered, fileOf, readAnswer}
 use Rattle.text.proofs.LineLaws.{may-head, may-list}
 use Rattle.text.proofs.TextLaws.{scriptOf, Nested, goes, script-written}
 use Rattle.text.proofs.PageLaws.{Page, inField, before-events, Says, page-says, page-walked}
@@ -147,9 +147,9 @@ unfolding pieceRight firstFault
 piece-right p l = rw (l .counts, encode-accepted p l .fine)
 
 -- It is granted, with the size of the piece's file.
-pub written-made : (room : ℕ) (p : Piece) → fileRoom ≤ room → Lawful p → readAnswer room (written p) ≡ Made (length (encode p))
+pub written-made : (room : ℕ) (p : Piece) → longestScore ≤ room → Lawful p → readAnswer room (written p) ≡ Made (length (encode p))
 unfolding readAnswer answered judged pick
-written-made room p q l = rw (le-leb fileRoom room q, read-written p l, piece-right p l)
+written-made room p q l = rw (le-leb longestScore room q, read-written p l, piece-right p l)
 
 -- What was written of an accepted file says its piece.
 pub written-never-refused : (f : List ℕ) → Accepted f → said (written (decode f)) ≡ piece (decode f)
@@ -162,5 +162,5 @@ module _ (f : List ℕ) (bytes : (i : ℕ) → getD f i 0 < 256) (accepted : Acc
   reading-written = rw (written-never-refused f accepted) (encode-decode f bytes accepted)
 
   -- "the written text is never refused": it is read into any room that is long enough, with the file's size.
-  pub written-granted : (room : ℕ) → fileRoom ≤ room → readAnswer room (written (decode f)) ≡ Made (length f)
+  pub written-granted : (room : ℕ) → longestScore ≤ room → readAnswer room (written (decode f)) ≡ Made (length f)
   written-granted room q = written-made room (decode f) q (decode-lawful f accepted) ∙ ap (λ (g : List ℕ). Made (length g)) (encode-decode f bytes accepted)

@@ -6,6 +6,7 @@ use lib.ListN.{length, take, drop}
 use Rattle.base.specs.Tests.{pick}
 use Rattle.base.specs.Checks.{Check, fine, refused, firstFault}
 use Rattle.contents.specs.declared.Fault.{Fault}
+use Rattle.contents.specs.Limits.{longestScore}
 use Rattle.contents.specs.Contents.{countsRight}
 use Rattle.tokens.specs.declared.Place.{Place}
 use Rattle.tokens.specs.Places.{placeBehind}
@@ -25,10 +26,6 @@ roomLeft (BadText l c) made m = m
 roomLeft (BadFile x) made m = m
 
 -- ---- reading
-
--- "2 for a file room under 52,256 bytes"
-abbrev pub fileRoom : ℕ
-fileRoom = 52256
 
 -- "a text past a count limit then gets the 4 its file would": "Counts past a limit get 4 at 4, 12, 20 or 28 whatever their size". Then the file's own check.
 unfoldable pub pieceRight : Piece → Check Fault
@@ -51,8 +48,9 @@ unfoldable pub fileOf : Reading → List ℕ
 fileOf (unread at) = []
 fileOf (piece p) = encode p
 
+-- "2 for a file room under 52,256 bytes"
 unfoldable pub readAnswer : (room : ℕ) → (text : List ℕ) → Transcript
-readAnswer room text = pick (leb fileRoom room) (answered text (said text)) NoRoom
+readAnswer room text = pick (leb longestScore room) (answered text (said text)) NoRoom
 
 -- ---- writing
 

@@ -4,7 +4,7 @@
 use std::sync::OnceLock;
 
 pub const VARIABLE: &str = "SECOND_MUTANT";
-pub const LAST: u32 = 30;
+pub const LAST: u32 = 38;
 
 pub const EXACTLY_E_J_IS_PAST: u32 = 1;
 pub const SLICE_FROM_THE_MISSED_EVENT: u32 = 2;
@@ -36,6 +36,14 @@ pub const HIGH_BYTES_LOST: u32 = 27;
 pub const BACKSLASH_KEPT: u32 = 28;
 pub const ELEVEN_DIGITS_READ: u32 = 29;
 pub const EMPTY_PART_REFUSED: u32 = 30;
+pub const ROUNDED_TOWARDS_ZERO: u32 = 31;
+pub const LAST_POINT_LEFT_OUT: u32 = 32;
+pub const PERIOD_INSIDE_THE_PASS: u32 = 33;
+pub const ONLY_OLD_MESSAGES_FOUND: u32 = 34;
+pub const DEPTH_NOT_COUNTED: u32 = 35;
+pub const PASSES_257_LET_IN: u32 = 36;
+pub const LIMITS_BEFORE_FAULTS: u32 = 37;
+pub const PAD_NOT_LOOKED_AT: u32 = 38;
 
 /// The number in the environment, 0 without one; an unreadable one is an error
 /// so that a slip is never taken for a run without a mutant.

@@ -1,0 +1,668 @@
+//! Extended scores that unfold into a score at a limit or past it, and special
+//! sound ones. Each sort comes twice, at the limit and past it.
+
+use crate::extended::{Extended, Figure, Point, MOST_PASSES};
+use crate::figures::{
+    at_the_end, curve, group, looped, sketch, word, Bounds, Sketch, SMALL, WITHOUT_CURVES,
+};
+use crate::random::Random;
+use crate::score::{
+    DEEPEST, LONGEST_TIME, MOST_ACTIONS, MOST_EVENTS, MOST_ITEMS, MOST_MESSAGES, MOST_TEXT,
+};
+
+/// How many sorts of limits there are, each at the limit and past it.
+pub const SORTS: u64 = 2 * 24;
+
+pub fn at_a_limit(random: &mut Random, sort: u64) -> Extended {
+    let past = sort % 2;
+    match sort / 2 {
+        0 => events(random, past),
+        1 => no_event(random, past),
+        2 => items_by_groups(random, past),
+        3 => items_by_passes(random, past),
+        4 => items_by_values(random, past),
+        5 => actions_by_actions(random, past),
+        6 => actions_by_passes(random, past),
+        7 => actions_by_values(random, past),
+        8 => messages_in_the_list(random, past),
+        9..=10 => messages_by_values(random, past),
+        11 => messages_by_two_curves(random, past),
+        12 => text_in_the_list(random, past),
+        13 => text_by_values(random, past),
+        14..=17 => depth(random, past, sort / 2 - 14),
+        18 => passes(random, past),
+        19 => period(random, past),
+        20 => longest_step(random, past),
+        21 => shortest_step(random, past),
+        22 => sums_that_wrap(random, past),
+        _ => loops_in_loops(random, past),
+    }
+}
+
+// ---------------------------------------------------------------- pieces
+
+/// A small sound score to which something is added at the end.
+fn base(random: &mut Random) -> Sketch {
+    sketch(random, SMALL)
+}
+
+/// One in which every message is in the list, and none is a number's.
+fn base_without_curves(random: &mut Random) -> Sketch {
+    sketch(random, WITHOUT_CURVES)
+}
+
+/// As long a list as is asked for, of labels that are no numbers.
+fn base_with_labels(random: &mut Random, count: u64) -> Extended {
+    let mut score = base_without_curves(random).score;
+    score.messages.truncate(count as usize);
+    for item in &mut score.items {
+        if item.entry.kind == 0 {
+            *item = Figure {
+                entry: crate::score::Entry {
+                    kind: 1,
+                    last: 0,
+                    ..item.entry
+                },
+                ..*item
+            };
+        }
+    }
+    let end = score.messages.last();
+    let used = end.map_or(0, |&(start, length)| start + length);
+    score.text.truncate(usize::from(used));
+    while (score.messages.len() as u64) < count {
+        let label = word(random);
+        score.add_message(&label);
+    }
+    score
+}
+
+/// A top item at the end, and what it holds.
+fn add(score: &mut Extended, figure: Figure, body: &[Figure]) {
+    let mut top = at_the_end(score, figure);
+    if top.holds() {
+        top.entry.last = body.len() as u16;
+    }
+    score.items.push(top);
+    for inner in body {
+        let mut inner = at_the_end(score, *inner);
+        inner.entry.event = 0;
+        score.items.push(inner);
+    }
+}
+
+fn add_groups(random: &mut Random, score: &mut Extended, count: u64) {
+    for _ in 0..count {
+        let figure = group(random);
+        add(score, figure, &[]);
+    }
+}
+
+/// A curve whose values go up or down by one at every step, from `first` on.
+fn add_ladder(random: &mut Random, score: &mut Extended, first: i32, count: u64) {
+    let step = random.pick(&[1, 7, 5_040, 630_000]);
+    let rise = random.pick(&[1, -1]);
+    let last = first + rise * (count as i32 - 1);
+    add_line(random, score, step, (first, last), count);
+}
+
+/// One straight curve of so many values, at least one.
+fn add_line(random: &mut Random, score: &mut Extended, step: u32, ends: (i32, i32), count: u64) {
+    let closing = Point {
+        value: ends.1,
+        span: 0,
+    };
+    let span = (count - 1) as u32 * step;
+    let opening = Point {
+        value: ends.0,
+        span,
+    };
+    let points = if count == 1 {
+        vec![closing]
+    } else {
+        vec![opening, closing]
+    };
+    let figure = curve(random, step, points.len());
+    add(score, figure, &[]);
+    score.points.extend(points);
+}
+
+/// An action that sends the first message.
+fn action() -> Figure {
+    Figure::default()
+}
+
+fn with_a_message(random: &mut Random, mut sketch: Sketch) -> Sketch {
+    if sketch.score.messages.is_empty() {
+        let label = word(random);
+        sketch.score.add_message(&label);
+    }
+    sketch
+}
+
+// ---------------------------------------------------------------- counts
+
+fn events(random: &mut Random, past: u64) -> Extended {
+    let mut score = base(random).score;
+    let count = MOST_EVENTS + past * random.pick(&[1, 1, 44, 65_280, 65_281]);
+    score.durations.resize(count as usize, 5_040);
+    if random.percent(50) {
+        add_groups(random, &mut score, 1);
+    }
+    score
+}
+
+fn no_event(random: &mut Random, past: u64) -> Extended {
+    let mut score = base(random).score;
+    score.durations.truncate(1 - past as usize);
+    if past == 0 || random.percent(50) {
+        score.items.clear();
+        score.points.clear();
+    }
+    score
+}
+
+fn items_by_groups(random: &mut Random, past: u64) -> Extended {
+    let Sketch {
+        mut score, items, ..
+    } = base(random);
+    let more = past * random.pick(&[1, 1, 1, 500]);
+    add_groups(random, &mut score, MOST_ITEMS - items + more);
+    score
+}
+
+/// A loop of many passes with one or more groups in each, and groups for the rest.
+fn items_by_passes(random: &mut Random, past: u64) -> Extended {
+    let Sketch {
+        mut score, items, ..
+    } = base(random);
+    let mut left = MOST_ITEMS - items;
+    while left > 10 && random.percent(90) {
+        let within = random.between(0, 6);
+        let most = ((left - 1) / (1 + within)).min(u64::from(MOST_PASSES));
+        let passes = random.pick(&[most, most, 1 + random_below(most)]);
+        let figure = looped(random, passes as u16);
+        let body: Vec<Figure> = (0..within).map(|_| group(random)).collect();
+        add(&mut score, figure, &body);
+        left -= 1 + passes * (1 + within);
+    }
+    add_groups(random, &mut score, left + past);
+    score
+}
+
+fn random_below(most: u64) -> u64 {
+    most / 2
+}
+
+/// As many values as may be, and groups for the rest.
+fn items_by_values(random: &mut Random, past: u64) -> Extended {
+    let sketch = base_without_curves(random);
+    let mut score = sketch.score;
+    let values = MOST_ACTIONS as u64 - sketch.actions;
+    let step = random.pick(&[1, 5_040, 60_000]);
+    let value = random.pick(&[0, 7, -7, i32::MIN]);
+    add_line(random, &mut score, step, (value, value), values);
+    let left = MOST_ITEMS - sketch.items - values - 1;
+    add_groups(random, &mut score, left + past);
+    score
+}
+
+fn actions_by_actions(random: &mut Random, past: u64) -> Extended {
+    let sketch = base(random);
+    let Sketch {
+        mut score, actions, ..
+    } = with_a_message(random, sketch);
+    let mut left = MOST_ACTIONS as u64 - actions + past;
+    while left > 0 {
+        let within = random.between(1, 60).min(left);
+        let figure = group(random);
+        add(&mut score, figure, &vec![action(); within as usize]);
+        left -= within;
+    }
+    score
+}
+
+fn actions_by_passes(random: &mut Random, past: u64) -> Extended {
+    let sketch = base(random);
+    let Sketch {
+        mut score, actions, ..
+    } = with_a_message(random, sketch);
+    let left = MOST_ACTIONS as u64 - actions;
+    let within = random.between(4, 9);
+    let passes = left / within;
+    let figure = looped(random, passes as u16);
+    add(&mut score, figure, &vec![action(); within as usize]);
+    for _ in 0..left - passes * within + past {
+        add(&mut score, action(), &[]);
+    }
+    score
+}
+
+/// More values than messages may be: many of them are alike.
+fn actions_by_values(random: &mut Random, past: u64) -> Extended {
+    let Sketch {
+        mut score, actions, ..
+    } = base(random);
+    let values = MOST_ACTIONS as u64 - actions + past;
+    let step = random.pick(&[1, 5_040, LONGEST_TIME / 2]);
+    let first = random.between(0, 400) as i32 - 200;
+    let last = first + random.between(0, 400) as i32 - 200;
+    add_line(random, &mut score, step, (first, last), values);
+    score
+}
+
+// -------------------------------------------------------------- the list
+
+fn messages_in_the_list(random: &mut Random, past: u64) -> Extended {
+    let more = past * random.pick(&[1, 1, 1, 100, 65_024]);
+    let mut score = base_with_labels(random, 0);
+    for _ in 0..MOST_MESSAGES + more {
+        score.add_message(b"n");
+    }
+    score
+}
+
+/// Labels that are no values, values that are in the list, and values that are
+/// not, together just as many.
+fn messages_by_values(random: &mut Random, past: u64) -> Extended {
+    let labels = random.pick(&[0, 1, 100, 500, 510, MOST_MESSAGES - 1]);
+    let mut score = base_with_labels(random, labels);
+    let count = MOST_MESSAGES - labels + past;
+    let first = random.between(0, 2_000) as i32 - 1_000;
+    add_ladder(random, &mut score, first, count);
+    let values = end_values(&score);
+    let found = random.pick(&[0, 1, count / 2, count]);
+    for value in values.into_iter().take(found as usize) {
+        score.add_message(value.to_string().as_bytes());
+    }
+    score
+}
+
+/// Every value of the last curve, which goes by ones.
+fn end_values(score: &Extended) -> Vec<i32> {
+    let last = score.points.len() - 1;
+    let closing = score.points[last].value;
+    let opening = match score.points.get(last.wrapping_sub(1)) {
+        Some(point) if point.span > 0 => point.value,
+        _ => closing,
+    };
+    (opening.min(closing)..=opening.max(closing)).collect()
+}
+
+/// Two curves that share some of their values.
+fn messages_by_two_curves(random: &mut Random, past: u64) -> Extended {
+    let labels = random.pick(&[0, 3, 200]);
+    let mut score = base_with_labels(random, labels);
+    let count = MOST_MESSAGES - labels + past;
+    let first = random.between(1, count - 1);
+    let shared = random.between(0, first);
+    let low = random.between(0, 600) as i32 - 300;
+    let step = random.pick(&[1, 2_520]);
+    let middle = low + first as i32 - 1;
+    let high = low + count as i32 - 1;
+    let second = count - first + shared;
+    add_line(random, &mut score, step, (low, middle), first);
+    let (from, to) = (middle + 1 - shared as i32, high);
+    let ends = random.pick(&[(from, to), (to, from)]);
+    add_line(random, &mut score, step, ends, second);
+    score
+}
+
+/// 512 labels of 48 bytes; past it a byte or more that nobody uses.
+fn text_in_the_list(random: &mut Random, past: u64) -> Extended {
+    let mut score = base_with_labels(random, 0);
+    for _ in 0..MOST_MESSAGES {
+        score.add_message(&[random.pick(b"t0-\xff"); 48]);
+    }
+    let more = past * random.pick(&[1, 1, 100, 40_960]);
+    score.text.resize((MOST_TEXT + more) as usize, b'5');
+    score
+}
+
+/// The values bring the text to its limit or past it. With so few messages one
+/// of the labels is too long, which the file check says where the limit is kept.
+fn text_by_values(random: &mut Random, past: u64) -> Extended {
+    let mut score = base_with_labels(random, 0);
+    let (value, length) = random.pick(&[
+        (5, 1),
+        (-5, 2),
+        (1_000, 4),
+        (i32::MAX, 10),
+        (i32::MIN, 11),
+    ]);
+    let count = random.between(1, 5);
+    add_line(random, &mut score, 5_040, (value, value), count);
+    let left = MOST_TEXT - length + past;
+    match random.below(3) {
+        0 => score.add_message(&vec![b'5'; left as usize]),
+        1 => score.text.resize(left as usize, b'-'),
+        _ => {
+            for _ in 0..MOST_MESSAGES - 2 {
+                score.add_message(&[b'x'; 48]);
+            }
+            let rest = left as usize - score.text.len();
+            score.add_message(&vec![b'y'; rest]);
+        }
+    }
+    score
+}
+
+// ----------------------------------------------------------------- depth
+
+/// A chain of groups and loops, with something of the sort inmost, as deep as may
+/// be or one deeper.
+fn depth(random: &mut Random, past: u64, inmost: u64) -> Extended {
+    let sketch = base(random);
+    let mut score = with_a_message(random, sketch).score;
+    let (inner, depths) = match inmost {
+        0 => (action(), 1),
+        1 => (group(random), 1),
+        2 => (looped(random, 2), 2),
+        _ => (curve(random, 1, 1), 2),
+    };
+    let mut left = DEEPEST + past as usize - depths;
+    let mut chain = Vec::new();
+    let loops = random.pick(&[0, 50, 100]);
+    while left > 0 {
+        if left > 1 && random.percent(loops) {
+            chain.push(looped(random, random_passes(left)));
+            left -= 2;
+        } else {
+            chain.push(group(random));
+            left -= 1;
+        }
+    }
+    chain.push(inner);
+    add_chain(random, &mut score, &chain);
+    if inner.points() > 0 {
+        score.points.push(Point { value: 8, span: 0 });
+    }
+    score
+}
+
+fn random_passes(left: usize) -> u16 {
+    1 + (left % 2) as u16
+}
+
+/// Each holds the next; sometimes an action stands beside the inmost.
+fn add_chain(random: &mut Random, score: &mut Extended, chain: &[Figure]) {
+    let beside = random.percent(30);
+    let count = chain.len() + usize::from(beside);
+    for (index, figure) in chain.iter().enumerate() {
+        let mut figure = at_the_end(score, *figure);
+        if index > 0 {
+            figure.entry.event = 0;
+        }
+        let inmost = index + 1 == chain.len();
+        if figure.holds() && !inmost {
+            figure.entry.last = (count - index - 1) as u16;
+        }
+        score.items.push(figure);
+    }
+    if beside && chain.len() > 1 {
+        let mut figure = at_the_end(score, action());
+        figure.entry.event = 0;
+        score.items.push(figure);
+    }
+}
+
+// -------------------------------------------------- loops' and curves' own
+
+fn passes(random: &mut Random, past: u64) -> Extended {
+    let sketch = base(random);
+    let mut score = with_a_message(random, sketch).score;
+    let most = MOST_PASSES;
+    let passes = if past == 0 {
+        random.pick(&[most, most, most - 1, 1])
+    } else {
+        random.pick(&[most + 1, most + 1, most + 1, 0, 512, u16::MAX])
+    };
+    let figure = looped(random, passes);
+    let within = random.between(0, 3);
+    add(&mut score, figure, &vec![action(); within as usize]);
+    score
+}
+
+fn period(random: &mut Random, past: u64) -> Extended {
+    let sketch = base(random);
+    let mut score = with_a_message(random, sketch).score;
+    let mut figure = looped(random, 3);
+    figure.each = if past == 0 {
+        random.pick(&[0, LONGEST_TIME, LONGEST_TIME])
+    } else {
+        random.pick(&[LONGEST_TIME + 1, LONGEST_TIME + 1, u32::MAX])
+    };
+    add(&mut score, figure, &[action()]);
+    score
+}
+
+fn longest_step(random: &mut Random, past: u64) -> Extended {
+    let mut score = base(random).score;
+    let step = LONGEST_TIME + past as u32;
+    let count = random.between(1, 20);
+    let ends = random.pick(&[(0, 100), (i32::MAX, i32::MIN), (5, 5)]);
+    add_line(random, &mut score, step, ends, count);
+    score
+}
+
+fn shortest_step(random: &mut Random, past: u64) -> Extended {
+    let mut score = base(random).score;
+    let count = random.between(1, 20);
+    add_line(random, &mut score, 1, (0, -100), count);
+    if past == 1 {
+        let last = score.items.len() - 1;
+        score.items[last].each = 0;
+    }
+    score
+}
+
+// ------------------------------------------------------------- very large
+
+/// Spans of 2^32 - 1 grains: far too many values, whose count is 0 or small to
+/// who cuts it to 32 or 64 bits; or the most that may be with the longest steps.
+fn sums_that_wrap(random: &mut Random, past: u64) -> Extended {
+    let mut score = base_without_curves(random).score;
+    if past == 0 {
+        steep(random, &mut score);
+        return score;
+    }
+    let step = random.pick(&[1, 1, 1, 3, 5, 15, 257, 65_537]);
+    let more = random.pick(&[0, 0, 1, 2, 255]);
+    let spans = random.pick(&[1, 1, 2, 256]);
+    let mut points = vec![
+        Point {
+            value: random.pick(&[0, i32::MIN]),
+            span: u32::MAX,
+        };
+        spans
+    ];
+    if more > 0 {
+        points.push(Point {
+            value: 1,
+            span: more * step,
+        });
+    }
+    points.push(Point {
+        value: i32::MAX,
+        span: 0,
+    });
+    let figure = curve(random, step, points.len());
+    let around = random.pick(&[0, 0, 1, 2, 3]);
+    let mut chain: Vec<Figure> = (0..around).map(|_| looped(random, 256)).collect();
+    chain.push(figure);
+    add_chain(random, &mut score, &chain);
+    score.points.extend(points);
+    score
+}
+
+/// j x step x (w - v) passes 2^63: the longest steps between the farthest values.
+fn steep(random: &mut Random, score: &mut Extended) {
+    let count = random.between(428, 499);
+    let step = LONGEST_TIME - random.below(3) as u32;
+    let ends = random.pick(&[(i32::MIN, i32::MAX), (i32::MAX, i32::MIN)]);
+    add_line(random, score, step, ends, count);
+}
+
+/// 256 passes within 256 within 256; or, at the limit, just as many as may be.
+fn loops_in_loops(random: &mut Random, past: u64) -> Extended {
+    let sketch = base(random);
+    let mut score = with_a_message(random, sketch).score;
+    let rows: &[&[u16]] = if past == 0 {
+        &[&[1, 1, 1, 1], &[2, 3, 5], &[10, 16, 4], &[20, 30], &[4, 4, 4, 4]]
+    } else {
+        &[
+            &[256, 256, 256],
+            &[256, 256, 256],
+            &[256, 256, 256, 256],
+            &[256; 8],
+            &[256; 30],
+            &[1; 5],
+        ]
+    };
+    let row = random.pick(rows);
+    let mut chain: Vec<Figure> = row.iter().map(|&passes| looped(random, passes)).collect();
+    if row.len() < 4 && random.percent(70) {
+        let inner = random.pick(&[action(), action(), group(random)]);
+        chain.push(inner);
+    }
+    add_chain(random, &mut score, &chain);
+    score
+}
+
+// --------------------------------------------------------- special, sound
+
+/// How many sorts of special scores there are; all of them are accepted.
+pub const SPECIAL: u64 = 7;
+
+pub fn special(random: &mut Random, sort: u64) -> Extended {
+    let mut score = base_without_curves(random).score;
+    match sort {
+        0 => steep(random, &mut score),
+        1 => longest_spans(random, &mut score),
+        2 => all_in_the_list(random, &mut score),
+        3 => alike(random, &mut score),
+        4 => below_zero(random, &mut score),
+        5 => curves_in_loops(random, &mut score),
+        _ => return full(random),
+    }
+    score
+}
+
+/// The largest multiple of the step below 2^32, in more than 800 steps; few of
+/// the values differ.
+fn longest_spans(random: &mut Random, score: &mut Extended) {
+    let step = LONGEST_TIME - random.below(3) as u32 * random.below(200_000) as u32;
+    let count = u32::MAX / step + 1;
+    let first = random.pick(&[0, 200, -200, i32::MIN, i32::MAX - 399]);
+    let last = first.saturating_add(random.below(400) as i32);
+    let ends = random.pick(&[(first, last), (last, first)]);
+    add_line(random, score, step, ends, u64::from(count));
+}
+
+/// Every value is in the list, at the end or in front, some of them twice.
+fn all_in_the_list(random: &mut Random, score: &mut Extended) {
+    let count = random.between(2, 300);
+    let first = random.between(0, 400) as i32 - 200;
+    add_ladder(random, score, first, count);
+    let mut values = end_values(score);
+    if random.percent(50) {
+        values.reverse();
+    }
+    for value in values {
+        for _ in 0..random.pick(&[1, 1, 1, 2]) {
+            if score.messages.len() < MOST_MESSAGES as usize {
+                score.add_message(value.to_string().as_bytes());
+            }
+        }
+    }
+    if score.messages.len() as u64 > MOST_MESSAGES - count {
+        // Whatever found no place is left out of the curve.
+        score.items.pop();
+        score.points.truncate(score.points.len() - 2);
+    }
+}
+
+/// Several curves over the same values, and values that come again in one.
+fn alike(random: &mut Random, score: &mut Extended) {
+    let low = random.between(0, 20) as i32 - 10;
+    for _ in 0..random.between(2, 6) {
+        let step = random.pick(&[1, 3, 5_040]);
+        let mut points = Vec::new();
+        for _ in 0..random.between(1, 5) {
+            let value = low + random.below(12) as i32;
+            let span = step * random.between(1, 20) as u32;
+            points.push(Point { value, span });
+        }
+        points.push(Point {
+            value: low,
+            span: 0,
+        });
+        let figure = curve(random, step, points.len());
+        add(score, figure, &[]);
+        score.points.extend(points);
+    }
+}
+
+/// Falling curves whose steps don't divide the fall.
+fn below_zero(random: &mut Random, score: &mut Extended) {
+    for _ in 0..random.between(1, 4) {
+        let count = random.between(3, 60);
+        let first = random.between(0, 40) as i32 - 20;
+        let fall = random.between(1, 100) as i32;
+        let step = random.pick(&[1, 7, 2_520]);
+        add_line(random, score, step, (first, first - fall), count);
+    }
+}
+
+/// A curve and a group of actions within loops.
+fn curves_in_loops(random: &mut Random, score: &mut Extended) {
+    let rows: &[&[u16]] = &[&[2], &[7], &[2, 3], &[4, 4], &[2, 2, 2], &[16]];
+    let row = random.pick(rows);
+    let mut chain: Vec<Figure> = row.iter().map(|&passes| looped(random, passes)).collect();
+    let value = random.below(200) as i32 - 100;
+    let points = vec![
+        Point { value, span: 63 },
+        Point {
+            value: value.wrapping_neg(),
+            span: 21,
+        },
+        Point {
+            value: random.pick(&[value, i32::MIN, i32::MAX]),
+            span: 0,
+        },
+    ];
+    let step = random.pick(&[7, 21]);
+    chain.push(curve(random, step, points.len()));
+    add_chain_of_loops(score, &chain);
+    score.points.extend(points);
+}
+
+fn add_chain_of_loops(score: &mut Extended, chain: &[Figure]) {
+    for (index, figure) in chain.iter().enumerate() {
+        let mut figure = at_the_end(score, *figure);
+        if index > 0 {
+            figure.entry.event = 0;
+        }
+        if figure.holds() {
+            figure.entry.last = (chain.len() - index - 1) as u16;
+        }
+        score.items.push(figure);
+    }
+}
+
+/// One of the largest scores.
+fn full(random: &mut Random) -> Extended {
+    let labels = random.below(MOST_MESSAGES + 1);
+    let bounds = Bounds {
+        items: MOST_ITEMS,
+        actions: MOST_ACTIONS as u64,
+        labels,
+        values: MOST_MESSAGES - labels,
+    };
+    loop {
+        let sketch = sketch(random, bounds);
+        if sketch.items > 1_000 {
+            return sketch.score;
+        }
+    }
+}
