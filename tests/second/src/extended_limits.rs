@@ -1,7 +1,7 @@
 //! Extended scores that unfold into a score at a limit or past it, and special
 //! sound ones. Each sort comes twice, at the limit and past it.
 
-use crate::extended::{Extended, Figure, Point, MOST_PASSES};
+use crate::extended::{Extended, Figure, Point, ACTION, GROUP, MOST_PASSES};
 use crate::figures::{
     at_the_end, curve, group, looped, sketch, word, Bounds, Sketch, SMALL, WITHOUT_CURVES,
 };
@@ -51,20 +51,14 @@ fn base_without_curves(random: &mut Random) -> Sketch {
     sketch(random, WITHOUT_CURVES)
 }
 
-/// As long a list as is asked for, of labels that are no numbers.
+/// As long a list as is asked for, of labels that are no numbers, and no action.
 fn base_with_labels(random: &mut Random, count: u64) -> Extended {
     let mut score = base_without_curves(random).score;
     score.messages.truncate(count as usize);
     for item in &mut score.items {
-        if item.entry.kind == 0 {
-            *item = Figure {
-                entry: crate::score::Entry {
-                    kind: 1,
-                    last: 0,
-                    ..item.entry
-                },
-                ..*item
-            };
+        if item.entry.kind == ACTION {
+            item.entry.kind = GROUP;
+            item.entry.last = 0;
         }
     }
     let end = score.messages.last();
@@ -180,7 +174,7 @@ fn items_by_passes(random: &mut Random, past: u64) -> Extended {
     while left > 10 && random.percent(90) {
         let within = random.between(0, 6);
         let most = ((left - 1) / (1 + within)).min(u64::from(MOST_PASSES));
-        let passes = random.pick(&[most, most, 1 + random_below(most)]);
+        let passes = random.pick(&[most, most, 1 + most / 2]);
         let figure = looped(random, passes as u16);
         let body: Vec<Figure> = (0..within).map(|_| group(random)).collect();
         add(&mut score, figure, &body);
@@ -188,10 +182,6 @@ fn items_by_passes(random: &mut Random, past: u64) -> Extended {
     }
     add_groups(random, &mut score, left + past);
     score
-}
-
-fn random_below(most: u64) -> u64 {
-    most / 2
 }
 
 /// As many values as may be, and groups for the rest.
@@ -365,7 +355,8 @@ fn depth(random: &mut Random, past: u64, inmost: u64) -> Extended {
     let loops = random.pick(&[0, 50, 100]);
     while left > 0 {
         if left > 1 && random.percent(loops) {
-            chain.push(looped(random, random_passes(left)));
+            let passes = random.pick(&[1, 1, 2]);
+            chain.push(looped(random, passes));
             left -= 2;
         } else {
             chain.push(group(random));
@@ -373,37 +364,41 @@ fn depth(random: &mut Random, past: u64, inmost: u64) -> Extended {
         }
     }
     chain.push(inner);
-    add_chain(random, &mut score, &chain);
+    add_chain(&mut score, &chain);
+    if random.percent(30) {
+        add_beside(&mut score, &chain);
+    }
     if inner.points() > 0 {
         score.points.push(Point { value: 8, span: 0 });
     }
     score
 }
 
-fn random_passes(left: usize) -> u16 {
-    1 + (left % 2) as u16
-}
-
-/// Each holds the next; sometimes an action stands beside the inmost.
-fn add_chain(random: &mut Random, score: &mut Extended, chain: &[Figure]) {
-    let beside = random.percent(30);
-    let count = chain.len() + usize::from(beside);
+/// Each holds the next.
+pub fn add_chain(score: &mut Extended, chain: &[Figure]) {
     for (index, figure) in chain.iter().enumerate() {
         let mut figure = at_the_end(score, *figure);
         if index > 0 {
             figure.entry.event = 0;
         }
-        let inmost = index + 1 == chain.len();
-        if figure.holds() && !inmost {
-            figure.entry.last = (count - index - 1) as u16;
+        if figure.holds() {
+            figure.entry.last = (chain.len() - index - 1) as u16;
         }
         score.items.push(figure);
     }
-    if beside && chain.len() > 1 {
-        let mut figure = at_the_end(score, action());
-        figure.entry.event = 0;
-        score.items.push(figure);
+}
+
+/// An action beside the inmost of the chain that was added, held by the others.
+fn add_beside(score: &mut Extended, chain: &[Figure]) {
+    let top = score.items.len() - chain.len();
+    for holder in &mut score.items[top..top + chain.len() - 1] {
+        holder.entry.last += 1;
     }
+    let mut figure = at_the_end(score, action());
+    if chain.len() > 1 {
+        figure.entry.event = 0;
+    }
+    score.items.push(figure);
 }
 
 // -------------------------------------------------- loops' and curves' own
@@ -490,14 +485,14 @@ fn sums_that_wrap(random: &mut Random, past: u64) -> Extended {
     let around = random.pick(&[0, 0, 1, 2, 3]);
     let mut chain: Vec<Figure> = (0..around).map(|_| looped(random, 256)).collect();
     chain.push(figure);
-    add_chain(random, &mut score, &chain);
+    add_chain(&mut score, &chain);
     score.points.extend(points);
     score
 }
 
 /// j x step x (w - v) passes 2^63: the longest steps between the farthest values.
 fn steep(random: &mut Random, score: &mut Extended) {
-    let count = random.between(428, 499);
+    let count = random.between(430, 499);
     let step = LONGEST_TIME - random.below(3) as u32;
     let ends = random.pick(&[(i32::MIN, i32::MAX), (i32::MAX, i32::MIN)]);
     add_line(random, score, step, ends, count);
@@ -508,7 +503,7 @@ fn loops_in_loops(random: &mut Random, past: u64) -> Extended {
     let sketch = base(random);
     let mut score = with_a_message(random, sketch).score;
     let rows: &[&[u16]] = if past == 0 {
-        &[&[1, 1, 1, 1], &[2, 3, 5], &[10, 16, 4], &[20, 30], &[4, 4, 4, 4]]
+        &[&[1, 1, 1, 1], &[2, 3, 5], &[10, 12, 3], &[16, 25], &[4, 4, 4, 4]]
     } else {
         &[
             &[256, 256, 256],
@@ -525,7 +520,10 @@ fn loops_in_loops(random: &mut Random, past: u64) -> Extended {
         let inner = random.pick(&[action(), action(), group(random)]);
         chain.push(inner);
     }
-    add_chain(random, &mut score, &chain);
+    add_chain(&mut score, &chain);
+    if random.percent(30) {
+        add_beside(&mut score, &chain);
+    }
     score
 }
 
@@ -561,7 +559,7 @@ fn longest_spans(random: &mut Random, score: &mut Extended) {
 
 /// Every value is in the list, at the end or in front, some of them twice.
 fn all_in_the_list(random: &mut Random, score: &mut Extended) {
-    let count = random.between(2, 300);
+    let count = random.between(2, 200);
     let first = random.between(0, 400) as i32 - 200;
     add_ladder(random, score, first, count);
     let mut values = end_values(score);
@@ -570,15 +568,8 @@ fn all_in_the_list(random: &mut Random, score: &mut Extended) {
     }
     for value in values {
         for _ in 0..random.pick(&[1, 1, 1, 2]) {
-            if score.messages.len() < MOST_MESSAGES as usize {
-                score.add_message(value.to_string().as_bytes());
-            }
+            score.add_message(value.to_string().as_bytes());
         }
-    }
-    if score.messages.len() as u64 > MOST_MESSAGES - count {
-        // Whatever found no place is left out of the curve.
-        score.items.pop();
-        score.points.truncate(score.points.len() - 2);
     }
 }
 
@@ -633,21 +624,8 @@ fn curves_in_loops(random: &mut Random, score: &mut Extended) {
     ];
     let step = random.pick(&[7, 21]);
     chain.push(curve(random, step, points.len()));
-    add_chain_of_loops(score, &chain);
+    add_chain(score, &chain);
     score.points.extend(points);
-}
-
-fn add_chain_of_loops(score: &mut Extended, chain: &[Figure]) {
-    for (index, figure) in chain.iter().enumerate() {
-        let mut figure = at_the_end(score, *figure);
-        if index > 0 {
-            figure.entry.event = 0;
-        }
-        if figure.holds() {
-            figure.entry.last = (chain.len() - index - 1) as u16;
-        }
-        score.items.push(figure);
-    }
 }
 
 /// One of the largest scores.
