@@ -517,8 +517,8 @@ fn loops_in_loops(random: &mut Random, past: u64) -> Extended {
     let row = random.pick(rows);
     let mut chain: Vec<Figure> = row.iter().map(|&passes| looped(random, passes)).collect();
     if row.len() < 4 && random.percent(70) {
-        let inner = random.pick(&[action(), action(), group(random)]);
-        chain.push(inner);
+        let empty = group(random);
+        chain.push(random.pick(&[action(), action(), empty]));
     }
     add_chain(&mut score, &chain);
     if random.percent(30) {

@@ -6,6 +6,11 @@ mod case;
 mod commands;
 mod compare;
 mod damage;
+mod extended;
+mod extended_cases;
+mod extended_faults;
+mod extended_limits;
+mod figures;
 mod lines;
 mod mutant;
 mod noise;
@@ -22,6 +27,7 @@ mod text;
 mod text_words;
 mod texts;
 mod tokens;
+mod unfold;
 mod words;
 mod writer;
 
@@ -42,6 +48,7 @@ const USAGE: &str = "usage:
   second scatter DIR SEED COUNT
   second noise SEED LINES
   second texts SEED COUNT OUT
+  second extended SEED COUNT OUT
   second words";
 
 /// What went wrong; bad arguments show the usage.
@@ -93,6 +100,9 @@ fn run(arguments: &[OsString]) -> Result<bool, Fault> {
             Ok(true)
         }
         ("texts", [seed, count, out]) => texts(number(seed)?, number(count)?, Path::new(out)),
+        ("extended", [seed, count, out]) => {
+            extended(number(seed)?, number(count)?, Path::new(out))
+        }
         ("words", []) => Ok(tally(words::words())),
         _ => Err(Fault::Arguments),
     }
@@ -175,6 +185,20 @@ fn texts(seed: u64, count: u64, out: &Path) -> Result<bool, Fault> {
         let case = texts::Case::of_seed(seed.wrapping_add(index));
         batch.write_all(&case.record())?;
         lines.write_all(&texts::lines(&case.expected()))?;
+    }
+    batch.flush()?;
+    lines.flush()?;
+    Ok(true)
+}
+
+/// Each seed's extended score into `out`; what must come of it on standard output.
+fn extended(seed: u64, count: u64, out: &Path) -> Result<bool, Fault> {
+    let mut batch = BufWriter::new(fs::File::create(out)?);
+    let mut lines = BufWriter::new(io::stdout().lock());
+    for index in 0..count {
+        let case = extended_cases::Case::of_seed(seed.wrapping_add(index));
+        batch.write_all(&case.record())?;
+        lines.write_all(&extended_cases::lines(&case.expected()))?;
     }
     batch.flush()?;
     lines.flush()?;
