@@ -1,0 +1,2 @@
+-- Laws of the extended score.
+mod ReadSteps

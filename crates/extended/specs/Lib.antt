@@ -3,3 +3,4 @@ pub mod Layout
 pub mod Folds
 pub mod Points
 pub mod Right
+pub mod Inner

@@ -1,7 +1,7 @@
 -- The control points: "Points are taken from the table in page order, each curve's where the last one's end".
 use Prim.Native.Nat.{ℕ, zero, suc, _+_, _%_}
 use mathlib.Core.Bool.{Bool, false}
-use mathlib.Core.List.{List, [], _∷_}
+use mathlib.Core.List.{List, [], _∷_, _++_}
 use lib.Dec.{leb, eqb}
 use lib.IntN.{ℤ}
 use lib.ListN.{take, drop}
@@ -36,3 +36,8 @@ pointsAfter i ps = pick (isCurve i) (drop (i .times) ps) ps
 
 unfoldable pub valuesOf : Folded → List Point → List ℤ
 valuesOf i ps = pick (isCurve i) (curveValues (i .each) (take (i .times) ps)) []
+
+-- The values of all curves, in page order.
+unfoldable pub allValues : List Folded → List Point → List ℤ
+allValues [] ps = []
+allValues (i ∷ is) ps = valuesOf i ps ++ allValues is (pointsAfter i ps)

@@ -1,7 +1,11 @@
-// The extended score: a score with loops and curves, before it is unfolded. Whether it can be, and where the first fault is; nothing here recurses, whatever holds what.
-ghost use mathlib.Core.Path.{_≡_};
-ghost use Rattle.extended.specs.Right.{extendedRight};
+// The extended score: a score with loops and curves, before it is unfolded. What stands where in its bytes.
 use page::Item;
+
+mod folds;
+pub mod layout;
+
+pub use folds::folded_at;
+pub use layout::extent_of;
 
 // The table of contents: how many of each there are.
 pub struct Extent {

@@ -1,9 +1,9 @@
 -- The rows of a table of items in words.
 use Prim.Native.Nat.{ℕ}
 
--- Kind, last and times are a row's first words: an item's shape.
+-- Kind, last and times, an item's shape, and a fourth word that is no part of it.
 abbrev pub rowWords : ℕ
-rowWords = 10
+rowWords = 4
 
 -- A word has 32 bits.
 abbrev pub wordRange : ℕ

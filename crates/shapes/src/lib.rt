@@ -11,7 +11,7 @@ use contents::limits::MOST_ACTIONS;
 use contents::limits::MOST_ITEMS;
 
 // A shape has the first three words of its row.
-pub const ROW_WORDS: usize = 10;
+pub const ROW_WORDS: usize = 4;
 
 // An item's shape: its kind (0 action, 1 group, 2 loop, 3 curve), the items within it, and how many passes or values it has.
 pub struct Shape {

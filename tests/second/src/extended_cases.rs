@@ -146,8 +146,8 @@ fn wrong_twice(random: &mut Random, limit: u64) -> Vec<u8> {
 
 // ------------------------------------------------------------------- big
 
-/// How many sorts of big inputs there are; any two rounds show one each.
-pub const BIG_SORTS: u64 = 11;
+/// How many sorts of big inputs there are.
+const BIG_SORTS: u64 = 11;
 
 /// Something that is far past a limit, often with a fault far behind; the sorts
 /// take turns. None has 1,500,000 bytes.

@@ -153,7 +153,7 @@ fn pad(random: &mut Random, score: &mut Extended, kind: u64) {
 // ----------------------------------------------------------- in the bytes
 
 /// How many sorts of wrong contents there are.
-pub const CONTENTS_SORTS: u64 = 14;
+pub const CONTENTS_SORTS: u64 = 18;
 
 pub fn spoil_contents(random: &mut Random, file: &mut Vec<u8>, sort: u64) {
     match sort {
@@ -164,22 +164,38 @@ pub fn spoil_contents(random: &mut Random, file: &mut Vec<u8>, sort: u64) {
             let length = random.pick(&[0, 1, 32, CONTENTS - 1, CONTENTS - 1]);
             file.truncate(length);
         }
-        _ => {
+        13 => {
             let length = random.index(file.len() + 1);
             file.truncate(length);
         }
+        14 => grow_count(file, 1, 1 << 30),
+        15 => grow_count(file, 3, 1 << 30),
+        16 => grow_count(file, 5, 1 << 30),
+        _ => grow_count(file, 9, 1 << 29),
     }
+}
+
+/// So many entries more that their bytes are a multiple of 2^32: right to who cuts
+/// the sum to 32 bits.
+fn grow_count(file: &mut [u8], word: usize, more: u32) {
+    change_word(file, word, |old| old.wrapping_add(more));
 }
 
 /// One offset or count.
 fn contents_word(random: &mut Random, file: &mut [u8], word: usize) {
+    change_word(file, word, |old| wrong_word(random, old));
+}
+
+fn change_word(file: &mut [u8], word: usize, change: impl FnOnce(u32) -> u32) {
     let place = 4 * word;
-    if file.len() < place + 4 {
-        return;
+    if let Some(bytes) = file.get_mut(place..place + 4) {
+        let old = u32::from_le_bytes([bytes[0], bytes[1], bytes[2], bytes[3]]);
+        bytes.copy_from_slice(&change(old).to_le_bytes());
     }
-    let bytes = &mut file[place..place + 4];
-    let old = u32::from_le_bytes([bytes[0], bytes[1], bytes[2], bytes[3]]);
-    let value = random.pick(&[
+}
+
+fn wrong_word(random: &mut Random, old: u32) -> u32 {
+    random.pick(&[
         0,
         old.wrapping_add(1),
         old.wrapping_sub(1),
@@ -188,8 +204,7 @@ fn contents_word(random: &mut Random, file: &mut [u8], word: usize) {
         old ^ 0x8000_0000,
         u32::MAX,
         u32::MAX,
-    ]);
-    bytes.copy_from_slice(&value.to_le_bytes());
+    ])
 }
 
 /// A few bytes anywhere, or all of them.
@@ -457,7 +472,6 @@ fn entry_past_the_text(random: &mut Random, score: &mut Extended) {
     let first_digits = score.text.len() as u16;
     let (one, two, both) = random.pick(&[(5, 6, 56), (-1, 0, -10), (12, 34, 1_234)]);
     let length = both.to_string().len() as u16;
-    // Past the text altogether, or only with its end.
     score.messages.push((first_digits, length));
     let mut values = vec![one, two, both];
     if random.percent(30) {
@@ -467,7 +481,6 @@ fn entry_past_the_text(random: &mut Random, score: &mut Extended) {
     if random.percent(30) {
         values.push(one);
     }
-    // In front of the values the entry lies where the first one comes to stand.
     let added = if values[0] == both { 3 } else { 2 };
     let number = labels + 1 + added - random.index(2);
     if random.percent(50) {

@@ -1,5 +1,5 @@
 //! Extended scores that unfold into a score at a limit or past it, and special
-//! sound ones. Each sort comes twice, at the limit and past it.
+//! sound ones. Each limit comes three times: kept, passed by one, and well passed.
 
 use crate::extended::{Extended, Figure, Point, ACTION, GROUP, MOST_PASSES};
 use crate::figures::{
@@ -10,12 +10,39 @@ use crate::score::{
     DEEPEST, LONGEST_TIME, MOST_ACTIONS, MOST_EVENTS, MOST_ITEMS, MOST_MESSAGES, MOST_TEXT,
 };
 
-/// How many sorts of limits there are, each at the limit and past it.
-pub const SORTS: u64 = 2 * 24;
+/// How many sorts there are: three for each limit.
+pub const SORTS: u64 = 3 * 24;
+
+/// Is the limit of this sort kept?
+#[derive(Clone, Copy, PartialEq)]
+pub enum Past {
+    Kept,
+    ByOne,
+    Well,
+}
+
+impl Past {
+    pub fn of_sort(sort: u64) -> Past {
+        match sort % 3 {
+            0 => Past::Kept,
+            1 => Past::ByOne,
+            _ => Past::Well,
+        }
+    }
+
+    /// One of the three: kept, passed by one, well passed.
+    fn pick<T>(self, kept: T, by_one: T, well: T) -> T {
+        match self {
+            Past::Kept => kept,
+            Past::ByOne => by_one,
+            Past::Well => well,
+        }
+    }
+}
 
 pub fn at_a_limit(random: &mut Random, sort: u64) -> Extended {
-    let past = sort % 2;
-    match sort / 2 {
+    let past = Past::of_sort(sort);
+    match sort / 3 {
         0 => events(random, past),
         1 => no_event(random, past),
         2 => items_by_groups(random, past),
@@ -29,7 +56,7 @@ pub fn at_a_limit(random: &mut Random, sort: u64) -> Extended {
         11 => messages_by_two_curves(random, past),
         12 => text_in_the_list(random, past),
         13 => text_by_values(random, past),
-        14..=17 => depth(random, past, sort / 2 - 14),
+        14..=17 => depth(random, past, sort / 3 - 14),
         18 => passes(random, past),
         19 => period(random, past),
         20 => longest_step(random, past),
@@ -136,9 +163,10 @@ fn with_a_message(random: &mut Random, mut sketch: Sketch) -> Sketch {
 
 // ---------------------------------------------------------------- counts
 
-fn events(random: &mut Random, past: u64) -> Extended {
+fn events(random: &mut Random, past: Past) -> Extended {
     let mut score = base(random).score;
-    let count = MOST_EVENTS + past * random.pick(&[1, 1, 44, 65_280, 65_281]);
+    let well = random.pick(&[44, 65_280, 65_281]);
+    let count = MOST_EVENTS + past.pick(0, 1, well);
     score.durations.resize(count as usize, 5_040);
     if random.percent(50) {
         add_groups(random, &mut score, 1);
@@ -146,27 +174,27 @@ fn events(random: &mut Random, past: u64) -> Extended {
     score
 }
 
-fn no_event(random: &mut Random, past: u64) -> Extended {
+fn no_event(random: &mut Random, past: Past) -> Extended {
     let mut score = base(random).score;
-    score.durations.truncate(1 - past as usize);
-    if past == 0 || random.percent(50) {
+    score.durations.truncate(past.pick(1, 0, 0));
+    if past == Past::Kept || random.percent(50) {
         score.items.clear();
         score.points.clear();
     }
     score
 }
 
-fn items_by_groups(random: &mut Random, past: u64) -> Extended {
+fn items_by_groups(random: &mut Random, past: Past) -> Extended {
     let Sketch {
         mut score, items, ..
     } = base(random);
-    let more = past * random.pick(&[1, 1, 1, 500]);
+    let more = past.pick(0, 1, 500);
     add_groups(random, &mut score, MOST_ITEMS - items + more);
     score
 }
 
 /// A loop of many passes with one or more groups in each, and groups for the rest.
-fn items_by_passes(random: &mut Random, past: u64) -> Extended {
+fn items_by_passes(random: &mut Random, past: Past) -> Extended {
     let Sketch {
         mut score, items, ..
     } = base(random);
@@ -180,12 +208,12 @@ fn items_by_passes(random: &mut Random, past: u64) -> Extended {
         add(&mut score, figure, &body);
         left -= 1 + passes * (1 + within);
     }
-    add_groups(random, &mut score, left + past);
+    add_groups(random, &mut score, left + past.pick(0, 1, 30));
     score
 }
 
 /// As many values as may be, and groups for the rest.
-fn items_by_values(random: &mut Random, past: u64) -> Extended {
+fn items_by_values(random: &mut Random, past: Past) -> Extended {
     let sketch = base_without_curves(random);
     let mut score = sketch.score;
     let values = MOST_ACTIONS as u64 - sketch.actions;
@@ -193,16 +221,16 @@ fn items_by_values(random: &mut Random, past: u64) -> Extended {
     let value = random.pick(&[0, 7, -7, i32::MIN]);
     add_line(random, &mut score, step, (value, value), values);
     let left = MOST_ITEMS - sketch.items - values - 1;
-    add_groups(random, &mut score, left + past);
+    add_groups(random, &mut score, left + past.pick(0, 1, 30));
     score
 }
 
-fn actions_by_actions(random: &mut Random, past: u64) -> Extended {
+fn actions_by_actions(random: &mut Random, past: Past) -> Extended {
     let sketch = base(random);
     let Sketch {
         mut score, actions, ..
     } = with_a_message(random, sketch);
-    let mut left = MOST_ACTIONS as u64 - actions + past;
+    let mut left = MOST_ACTIONS as u64 - actions + past.pick(0, 1, 300);
     while left > 0 {
         let within = random.between(1, 60).min(left);
         let figure = group(random);
@@ -212,7 +240,7 @@ fn actions_by_actions(random: &mut Random, past: u64) -> Extended {
     score
 }
 
-fn actions_by_passes(random: &mut Random, past: u64) -> Extended {
+fn actions_by_passes(random: &mut Random, past: Past) -> Extended {
     let sketch = base(random);
     let Sketch {
         mut score, actions, ..
@@ -222,18 +250,18 @@ fn actions_by_passes(random: &mut Random, past: u64) -> Extended {
     let passes = left / within;
     let figure = looped(random, passes as u16);
     add(&mut score, figure, &vec![action(); within as usize]);
-    for _ in 0..left - passes * within + past {
+    for _ in 0..left - passes * within + past.pick(0, 1, 300) {
         add(&mut score, action(), &[]);
     }
     score
 }
 
 /// More values than messages may be: many of them are alike.
-fn actions_by_values(random: &mut Random, past: u64) -> Extended {
+fn actions_by_values(random: &mut Random, past: Past) -> Extended {
     let Sketch {
         mut score, actions, ..
     } = base(random);
-    let values = MOST_ACTIONS as u64 - actions + past;
+    let values = MOST_ACTIONS as u64 - actions + past.pick(0, 1, 300);
     let step = random.pick(&[1, 5_040, LONGEST_TIME / 2]);
     let first = random.between(0, 400) as i32 - 200;
     let last = first + random.between(0, 400) as i32 - 200;
@@ -243,8 +271,8 @@ fn actions_by_values(random: &mut Random, past: u64) -> Extended {
 
 // -------------------------------------------------------------- the list
 
-fn messages_in_the_list(random: &mut Random, past: u64) -> Extended {
-    let more = past * random.pick(&[1, 1, 1, 100, 65_024]);
+fn messages_in_the_list(random: &mut Random, past: Past) -> Extended {
+    let more = past.pick(0, 1, random.pick(&[100, 65_024]));
     let mut score = base_with_labels(random, 0);
     for _ in 0..MOST_MESSAGES + more {
         score.add_message(b"n");
@@ -254,10 +282,10 @@ fn messages_in_the_list(random: &mut Random, past: u64) -> Extended {
 
 /// Labels that are no values, values that are in the list, and values that are
 /// not, together just as many.
-fn messages_by_values(random: &mut Random, past: u64) -> Extended {
+fn messages_by_values(random: &mut Random, past: Past) -> Extended {
     let labels = random.pick(&[0, 1, 100, 500, 510, MOST_MESSAGES - 1]);
     let mut score = base_with_labels(random, labels);
-    let count = MOST_MESSAGES - labels + past;
+    let count = MOST_MESSAGES - labels + past.pick(0, 1, 40);
     let first = random.between(0, 2_000) as i32 - 1_000;
     add_ladder(random, &mut score, first, count);
     let values = end_values(&score);
@@ -280,10 +308,10 @@ fn end_values(score: &Extended) -> Vec<i32> {
 }
 
 /// Two curves that share some of their values.
-fn messages_by_two_curves(random: &mut Random, past: u64) -> Extended {
+fn messages_by_two_curves(random: &mut Random, past: Past) -> Extended {
     let labels = random.pick(&[0, 3, 200]);
     let mut score = base_with_labels(random, labels);
-    let count = MOST_MESSAGES - labels + past;
+    let count = MOST_MESSAGES - labels + past.pick(0, 1, 40);
     let first = random.between(1, count - 1);
     let shared = random.between(0, first);
     let low = random.between(0, 600) as i32 - 300;
@@ -299,19 +327,19 @@ fn messages_by_two_curves(random: &mut Random, past: u64) -> Extended {
 }
 
 /// 512 labels of 48 bytes; past it a byte or more that nobody uses.
-fn text_in_the_list(random: &mut Random, past: u64) -> Extended {
+fn text_in_the_list(random: &mut Random, past: Past) -> Extended {
     let mut score = base_with_labels(random, 0);
     for _ in 0..MOST_MESSAGES {
         score.add_message(&[random.pick(b"t0-\xff"); 48]);
     }
-    let more = past * random.pick(&[1, 1, 100, 40_960]);
+    let more = past.pick(0, 1, random.pick(&[100, 40_960]));
     score.text.resize((MOST_TEXT + more) as usize, b'5');
     score
 }
 
 /// The values bring the text to its limit or past it. With so few messages one
 /// of the labels is too long, which the file check says where the limit is kept.
-fn text_by_values(random: &mut Random, past: u64) -> Extended {
+fn text_by_values(random: &mut Random, past: Past) -> Extended {
     let mut score = base_with_labels(random, 0);
     let (value, length) = random.pick(&[
         (5, 1),
@@ -322,7 +350,7 @@ fn text_by_values(random: &mut Random, past: u64) -> Extended {
     ]);
     let count = random.between(1, 5);
     add_line(random, &mut score, 5_040, (value, value), count);
-    let left = MOST_TEXT - length + past;
+    let left = MOST_TEXT - length + past.pick(0, 1, 40);
     match random.below(3) {
         0 => score.add_message(&vec![b'5'; left as usize]),
         1 => score.text.resize(left as usize, b'-'),
@@ -341,7 +369,7 @@ fn text_by_values(random: &mut Random, past: u64) -> Extended {
 
 /// A chain of groups and loops, with something of the sort inmost, as deep as may
 /// be or one deeper.
-fn depth(random: &mut Random, past: u64, inmost: u64) -> Extended {
+fn depth(random: &mut Random, past: Past, inmost: u64) -> Extended {
     let sketch = base(random);
     let mut score = with_a_message(random, sketch).score;
     let (inner, depths) = match inmost {
@@ -350,7 +378,7 @@ fn depth(random: &mut Random, past: u64, inmost: u64) -> Extended {
         2 => (looped(random, 2), 2),
         _ => (curve(random, 1, 1), 2),
     };
-    let mut left = DEEPEST + past as usize - depths;
+    let mut left = past.pick(DEEPEST, DEEPEST + 1, 20) - depths;
     let mut chain = Vec::new();
     let loops = random.pick(&[0, 50, 100]);
     while left > 0 {
@@ -403,51 +431,42 @@ fn add_beside(score: &mut Extended, chain: &[Figure]) {
 
 // -------------------------------------------------- loops' and curves' own
 
-fn passes(random: &mut Random, past: u64) -> Extended {
+fn passes(random: &mut Random, past: Past) -> Extended {
     let sketch = base(random);
     let mut score = with_a_message(random, sketch).score;
-    let most = MOST_PASSES;
-    let passes = if past == 0 {
-        random.pick(&[most, most, most - 1, 1])
-    } else {
-        random.pick(&[most + 1, most + 1, most + 1, 0, 512, u16::MAX])
-    };
+    let well = random.pick(&[0, 258, 512, u16::MAX]);
+    let passes = past.pick(MOST_PASSES, MOST_PASSES + 1, well);
     let figure = looped(random, passes);
     let within = random.between(0, 3);
     add(&mut score, figure, &vec![action(); within as usize]);
     score
 }
 
-fn period(random: &mut Random, past: u64) -> Extended {
+fn period(random: &mut Random, past: Past) -> Extended {
     let sketch = base(random);
     let mut score = with_a_message(random, sketch).score;
     let mut figure = looped(random, 3);
-    figure.each = if past == 0 {
-        random.pick(&[0, LONGEST_TIME, LONGEST_TIME])
-    } else {
-        random.pick(&[LONGEST_TIME + 1, LONGEST_TIME + 1, u32::MAX])
-    };
+    figure.each = past.pick(LONGEST_TIME, LONGEST_TIME + 1, u32::MAX);
     add(&mut score, figure, &[action()]);
     score
 }
 
-fn longest_step(random: &mut Random, past: u64) -> Extended {
+fn longest_step(random: &mut Random, past: Past) -> Extended {
     let mut score = base(random).score;
-    let step = LONGEST_TIME + past as u32;
-    let count = random.between(1, 20);
+    let step = past.pick(LONGEST_TIME, LONGEST_TIME + 1, u32::MAX);
+    let count = past.pick(random.between(1, 20), random.between(1, 20), 2);
     let ends = random.pick(&[(0, 100), (i32::MAX, i32::MIN), (5, 5)]);
     add_line(random, &mut score, step, ends, count);
     score
 }
 
-fn shortest_step(random: &mut Random, past: u64) -> Extended {
+/// A step of 1, and none.
+fn shortest_step(random: &mut Random, past: Past) -> Extended {
     let mut score = base(random).score;
-    let count = random.between(1, 20);
+    let count = past.pick(random.between(1, 20), random.between(1, 20), 1);
     add_line(random, &mut score, 1, (0, -100), count);
-    if past == 1 {
-        let last = score.items.len() - 1;
-        score.items[last].each = 0;
-    }
+    let last = score.items.len() - 1;
+    score.items[last].each = past.pick(1, 0, 0);
     score
 }
 
@@ -455,9 +474,9 @@ fn shortest_step(random: &mut Random, past: u64) -> Extended {
 
 /// Spans of 2^32 - 1 grains: far too many values, whose count is 0 or small to
 /// who cuts it to 32 or 64 bits; or the most that may be with the longest steps.
-fn sums_that_wrap(random: &mut Random, past: u64) -> Extended {
+fn sums_that_wrap(random: &mut Random, past: Past) -> Extended {
     let mut score = base_without_curves(random).score;
-    if past == 0 {
+    if past == Past::Kept {
         steep(random, &mut score);
         return score;
     }
@@ -499,10 +518,10 @@ fn steep(random: &mut Random, score: &mut Extended) {
 }
 
 /// 256 passes within 256 within 256; or, at the limit, just as many as may be.
-fn loops_in_loops(random: &mut Random, past: u64) -> Extended {
+fn loops_in_loops(random: &mut Random, past: Past) -> Extended {
     let sketch = base(random);
     let mut score = with_a_message(random, sketch).score;
-    let rows: &[&[u16]] = if past == 0 {
+    let rows: &[&[u16]] = if past == Past::Kept {
         &[&[1, 1, 1, 1], &[2, 3, 5], &[10, 12, 3], &[16, 25], &[4, 4, 4, 4]]
     } else {
         &[

@@ -1,0 +1,2 @@
+-- Laws of unfolding.
+mod ReplySteps
