@@ -1,10 +1,13 @@
 //! Random cases for unfolding: extended scores, each with the length of the room
 //! that is lent.
 
+use crate::additions::{add_chain, at_the_end, curve, group, looped};
 use crate::extended::{Extended, Fault, Figure, Point};
-use crate::extended_faults::{self as faults, CONTENTS_SORTS, FILE_SORTS};
-use crate::extended_limits::{self as limits, add_chain, SPECIAL};
-use crate::figures::{at_the_end, curve, group, invent, looped, piece};
+use crate::extended_faults::{self as faults, CONTENTS_SORTS};
+use crate::extended_file_faults as file_faults;
+use crate::extended_limits as limits;
+use crate::extended_specials as specials;
+use crate::figures::{invent, piece};
 use crate::random::Random;
 use crate::scores;
 use crate::text::FILE_ROOM;
@@ -28,11 +31,11 @@ impl Case {
             0 => big(random, round),
             1..=42 => invent(random).score.encode(),
             43..=49 => Extended::of_tables(scores::invent(random).tables).encode(),
-            50..=55 => limits::special(random, sort(50, 6, SPECIAL)).encode(),
+            50..=55 => specials::special(random, sort(50, 6, specials::SORTS)).encode(),
             56..=73 => limits::at_a_limit(random, sort(56, 18, limits::SORTS)).encode(),
             74..=89 => spoiled(random, sort(74, 16, faults::SORTS)),
             90..=94 => spoiled_contents(random, sort(90, 5, CONTENTS_SORTS)),
-            95..=109 => spoiled_file(random, sort(95, 15, FILE_SORTS)),
+            95..=109 => spoiled_file(random, sort(95, 15, file_faults::SORTS)),
             110..=116 => scattered(random),
             _ => wrong_twice(random, sort(117, 8, limits::SORTS)),
         };
@@ -102,7 +105,7 @@ fn spoiled_contents(random: &mut Random, sort: u64) -> Vec<u8> {
 
 fn spoiled_file(random: &mut Random, sort: u64) -> Vec<u8> {
     let mut score = piece(random).score;
-    faults::spoil_file(random, &mut score, sort);
+    file_faults::spoil_file(random, &mut score, sort);
     score.encode()
 }
 
@@ -129,8 +132,8 @@ fn wrong_twice(random: &mut Random, limit: u64) -> Vec<u8> {
         _ => limits::at_a_limit(random, limit),
     };
     if left_out != 1 {
-        let sort = random.below(FILE_SORTS);
-        faults::spoil_file(random, &mut score, sort);
+        let sort = random.below(file_faults::SORTS);
+        file_faults::spoil_file(random, &mut score, sort);
     }
     if left_out != 2 {
         let sort = random.below(faults::SORTS);

@@ -1,10 +1,13 @@
-//! Extended scores that unfold into a score at a limit or past it, and special
-//! sound ones. Each limit comes three times: kept, passed by one, and well passed.
+//! Extended scores that unfold into a score at a limit or past it. Each limit
+//! comes three times: kept, passed by one, and well passed.
 
-use crate::extended::{Extended, Figure, Point, ACTION, GROUP, MOST_PASSES};
-use crate::figures::{
-    at_the_end, curve, group, looped, sketch, word, Bounds, Sketch, SMALL, WITHOUT_CURVES,
+use crate::additions::{
+    action, add, add_beside, add_chain, add_groups, add_ladder, add_line, curve, end_values, group,
+    looped,
 };
+use crate::extended::{Extended, Figure, Point, ACTION, GROUP, MOST_PASSES};
+use crate::extended_specials::steep;
+use crate::figures::{base, base_without_curves, word, Sketch};
 use crate::random::Random;
 use crate::score::{
     DEEPEST, LONGEST_TIME, MOST_ACTIONS, MOST_EVENTS, MOST_ITEMS, MOST_MESSAGES, MOST_TEXT,
@@ -68,16 +71,6 @@ pub fn at_a_limit(random: &mut Random, sort: u64) -> Extended {
 
 // ---------------------------------------------------------------- pieces
 
-/// A small sound score to which something is added at the end.
-fn base(random: &mut Random) -> Sketch {
-    sketch(random, SMALL)
-}
-
-/// One in which every message is in the list, and none is a number's.
-fn base_without_curves(random: &mut Random) -> Sketch {
-    sketch(random, WITHOUT_CURVES)
-}
-
 /// As long a list as is asked for, of labels that are no numbers, and no action.
 fn base_with_labels(random: &mut Random, count: u64) -> Extended {
     let mut score = base_without_curves(random).score;
@@ -96,61 +89,6 @@ fn base_with_labels(random: &mut Random, count: u64) -> Extended {
         score.add_message(&label);
     }
     score
-}
-
-/// A top item at the end, and what it holds.
-fn add(score: &mut Extended, figure: Figure, body: &[Figure]) {
-    let mut top = at_the_end(score, figure);
-    if top.holds() {
-        top.entry.last = body.len() as u16;
-    }
-    score.items.push(top);
-    for inner in body {
-        let mut inner = at_the_end(score, *inner);
-        inner.entry.event = 0;
-        score.items.push(inner);
-    }
-}
-
-fn add_groups(random: &mut Random, score: &mut Extended, count: u64) {
-    for _ in 0..count {
-        let figure = group(random);
-        add(score, figure, &[]);
-    }
-}
-
-/// A curve whose values go up or down by one at every step, from `first` on.
-fn add_ladder(random: &mut Random, score: &mut Extended, first: i32, count: u64) {
-    let step = random.pick(&[1, 7, 5_040, 630_000]);
-    let rise = random.pick(&[1, -1]);
-    let last = first + rise * (count as i32 - 1);
-    add_line(random, score, step, (first, last), count);
-}
-
-/// One straight curve of so many values, at least one.
-fn add_line(random: &mut Random, score: &mut Extended, step: u32, ends: (i32, i32), count: u64) {
-    let closing = Point {
-        value: ends.1,
-        span: 0,
-    };
-    let span = (count - 1) as u32 * step;
-    let opening = Point {
-        value: ends.0,
-        span,
-    };
-    let points = if count == 1 {
-        vec![closing]
-    } else {
-        vec![opening, closing]
-    };
-    let figure = curve(random, step, points.len());
-    add(score, figure, &[]);
-    score.points.extend(points);
-}
-
-/// An action that sends the first message.
-fn action() -> Figure {
-    Figure::default()
 }
 
 fn with_a_message(random: &mut Random, mut sketch: Sketch) -> Sketch {
@@ -296,17 +234,6 @@ fn messages_by_values(random: &mut Random, past: Past) -> Extended {
     score
 }
 
-/// Every value of the last curve, which goes by ones.
-fn end_values(score: &Extended) -> Vec<i32> {
-    let last = score.points.len() - 1;
-    let closing = score.points[last].value;
-    let opening = match score.points.get(last.wrapping_sub(1)) {
-        Some(point) if point.span > 0 => point.value,
-        _ => closing,
-    };
-    (opening.min(closing)..=opening.max(closing)).collect()
-}
-
 /// Two curves that share some of their values.
 fn messages_by_two_curves(random: &mut Random, past: Past) -> Extended {
     let labels = random.pick(&[0, 3, 200]);
@@ -341,13 +268,8 @@ fn text_in_the_list(random: &mut Random, past: Past) -> Extended {
 /// of the labels is too long, which the file check says where the limit is kept.
 fn text_by_values(random: &mut Random, past: Past) -> Extended {
     let mut score = base_with_labels(random, 0);
-    let (value, length) = random.pick(&[
-        (5, 1),
-        (-5, 2),
-        (1_000, 4),
-        (i32::MAX, 10),
-        (i32::MIN, 11),
-    ]);
+    let (value, length) =
+        random.pick(&[(5, 1), (-5, 2), (1_000, 4), (i32::MAX, 10), (i32::MIN, 11)]);
     let count = random.between(1, 5);
     add_line(random, &mut score, 5_040, (value, value), count);
     let left = MOST_TEXT - length + past.pick(0, 1, 40);
@@ -402,33 +324,6 @@ fn depth(random: &mut Random, past: Past, inmost: u64) -> Extended {
     score
 }
 
-/// Each holds the next.
-pub fn add_chain(score: &mut Extended, chain: &[Figure]) {
-    for (index, figure) in chain.iter().enumerate() {
-        let mut figure = at_the_end(score, *figure);
-        if index > 0 {
-            figure.entry.event = 0;
-        }
-        if figure.holds() {
-            figure.entry.last = (chain.len() - index - 1) as u16;
-        }
-        score.items.push(figure);
-    }
-}
-
-/// An action beside the inmost of the chain that was added, held by the others.
-fn add_beside(score: &mut Extended, chain: &[Figure]) {
-    let top = score.items.len() - chain.len();
-    for holder in &mut score.items[top..top + chain.len() - 1] {
-        holder.entry.last += 1;
-    }
-    let mut figure = at_the_end(score, action());
-    if chain.len() > 1 {
-        figure.entry.event = 0;
-    }
-    score.items.push(figure);
-}
-
 // -------------------------------------------------- loops' and curves' own
 
 fn passes(random: &mut Random, past: Past) -> Extended {
@@ -480,9 +375,9 @@ fn sums_that_wrap(random: &mut Random, past: Past) -> Extended {
         steep(random, &mut score);
         return score;
     }
-    let step = random.pick(&[1, 1, 1, 3, 5, 15, 257, 65_537]);
-    let more = random.pick(&[0, 0, 1, 2, 255]);
-    let spans = random.pick(&[1, 1, 2, 256]);
+    let step = past.pick(1, 1, random.pick(&[1, 3, 5, 15, 257, 65_537]));
+    let more = past.pick(0, 0, random.pick(&[0, 1, 2, 255]));
+    let spans = past.pick(1, 1, random.pick(&[1, 2, 256]));
     let mut points = vec![
         Point {
             value: random.pick(&[0, i32::MIN]),
@@ -509,31 +404,20 @@ fn sums_that_wrap(random: &mut Random, past: Past) -> Extended {
     score
 }
 
-/// j x step x (w - v) passes 2^63: the longest steps between the farthest values.
-fn steep(random: &mut Random, score: &mut Extended) {
-    let count = random.between(430, 499);
-    let step = LONGEST_TIME - random.below(3) as u32;
-    let ends = random.pick(&[(i32::MIN, i32::MAX), (i32::MAX, i32::MIN)]);
-    add_line(random, score, step, ends, count);
-}
-
-/// 256 passes within 256 within 256; or, at the limit, just as many as may be.
+/// 256 passes within 256 within 256; or as few as may be.
 fn loops_in_loops(random: &mut Random, past: Past) -> Extended {
     let sketch = base(random);
     let mut score = with_a_message(random, sketch).score;
-    let rows: &[&[u16]] = if past == Past::Kept {
-        &[&[1, 1, 1, 1], &[2, 3, 5], &[10, 12, 3], &[16, 25], &[4, 4, 4, 4]]
-    } else {
-        &[
-            &[256, 256, 256],
-            &[256, 256, 256],
-            &[256, 256, 256, 256],
-            &[256; 8],
-            &[256; 30],
-            &[1; 5],
-        ]
-    };
-    let row = random.pick(rows);
+    let kept: &[&[u16]] = &[
+        &[1, 1, 1, 1],
+        &[2, 3, 5],
+        &[10, 12, 3],
+        &[16, 25],
+        &[4, 4, 4, 4],
+    ];
+    let by_one: &[&[u16]] = &[&[256; 3]];
+    let well: &[&[u16]] = &[&[256; 4], &[256; 8], &[256; 30], &[1; 5]];
+    let row = random.pick(past.pick(kept, by_one, well));
     let mut chain: Vec<Figure> = row.iter().map(|&passes| looped(random, passes)).collect();
     if row.len() < 4 && random.percent(70) {
         let empty = group(random);
@@ -544,122 +428,4 @@ fn loops_in_loops(random: &mut Random, past: Past) -> Extended {
         add_beside(&mut score, &chain);
     }
     score
-}
-
-// --------------------------------------------------------- special, sound
-
-/// How many sorts of special scores there are; all of them are accepted.
-pub const SPECIAL: u64 = 7;
-
-pub fn special(random: &mut Random, sort: u64) -> Extended {
-    let mut score = base_without_curves(random).score;
-    match sort {
-        0 => steep(random, &mut score),
-        1 => longest_spans(random, &mut score),
-        2 => all_in_the_list(random, &mut score),
-        3 => alike(random, &mut score),
-        4 => below_zero(random, &mut score),
-        5 => curves_in_loops(random, &mut score),
-        _ => return full(random),
-    }
-    score
-}
-
-/// The largest multiple of the step below 2^32, in more than 800 steps; few of
-/// the values differ.
-fn longest_spans(random: &mut Random, score: &mut Extended) {
-    let step = LONGEST_TIME - random.below(3) as u32 * random.below(200_000) as u32;
-    let count = u32::MAX / step + 1;
-    let first = random.pick(&[0, 200, -200, i32::MIN, i32::MAX - 399]);
-    let last = first.saturating_add(random.below(400) as i32);
-    let ends = random.pick(&[(first, last), (last, first)]);
-    add_line(random, score, step, ends, u64::from(count));
-}
-
-/// Every value is in the list, at the end or in front, some of them twice.
-fn all_in_the_list(random: &mut Random, score: &mut Extended) {
-    let count = random.between(2, 200);
-    let first = random.between(0, 400) as i32 - 200;
-    add_ladder(random, score, first, count);
-    let mut values = end_values(score);
-    if random.percent(50) {
-        values.reverse();
-    }
-    for value in values {
-        for _ in 0..random.pick(&[1, 1, 1, 2]) {
-            score.add_message(value.to_string().as_bytes());
-        }
-    }
-}
-
-/// Several curves over the same values, and values that come again in one.
-fn alike(random: &mut Random, score: &mut Extended) {
-    let low = random.between(0, 20) as i32 - 10;
-    for _ in 0..random.between(2, 6) {
-        let step = random.pick(&[1, 3, 5_040]);
-        let mut points = Vec::new();
-        for _ in 0..random.between(1, 5) {
-            let value = low + random.below(12) as i32;
-            let span = step * random.between(1, 20) as u32;
-            points.push(Point { value, span });
-        }
-        points.push(Point {
-            value: low,
-            span: 0,
-        });
-        let figure = curve(random, step, points.len());
-        add(score, figure, &[]);
-        score.points.extend(points);
-    }
-}
-
-/// Falling curves whose steps don't divide the fall.
-fn below_zero(random: &mut Random, score: &mut Extended) {
-    for _ in 0..random.between(1, 4) {
-        let count = random.between(3, 60);
-        let first = random.between(0, 40) as i32 - 20;
-        let fall = random.between(1, 100) as i32;
-        let step = random.pick(&[1, 7, 2_520]);
-        add_line(random, score, step, (first, first - fall), count);
-    }
-}
-
-/// A curve and a group of actions within loops.
-fn curves_in_loops(random: &mut Random, score: &mut Extended) {
-    let rows: &[&[u16]] = &[&[2], &[7], &[2, 3], &[4, 4], &[2, 2, 2], &[16]];
-    let row = random.pick(rows);
-    let mut chain: Vec<Figure> = row.iter().map(|&passes| looped(random, passes)).collect();
-    let value = random.below(200) as i32 - 100;
-    let points = vec![
-        Point { value, span: 63 },
-        Point {
-            value: value.wrapping_neg(),
-            span: 21,
-        },
-        Point {
-            value: random.pick(&[value, i32::MIN, i32::MAX]),
-            span: 0,
-        },
-    ];
-    let step = random.pick(&[7, 21]);
-    chain.push(curve(random, step, points.len()));
-    add_chain(score, &chain);
-    score.points.extend(points);
-}
-
-/// One of the largest scores.
-fn full(random: &mut Random) -> Extended {
-    let labels = random.below(MOST_MESSAGES + 1);
-    let bounds = Bounds {
-        items: MOST_ITEMS,
-        actions: MOST_ACTIONS as u64,
-        labels,
-        values: MOST_MESSAGES - labels,
-    };
-    loop {
-        let sketch = sketch(random, bounds);
-        if sketch.items > 1_000 {
-            return sketch.score;
-        }
-    }
 }

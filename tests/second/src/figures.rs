@@ -1,6 +1,7 @@
 //! Random extended scores that unfold into an accepted file. What they unfold
 //! into is counted here without unfolding them.
 
+use crate::additions::{curve, group, looped};
 use crate::extended::{Extended, Figure, Point, ACTION, CURVE, GROUP, LOOP, MOST_PASSES};
 use crate::random::Random;
 use crate::score::{
@@ -25,7 +26,7 @@ pub struct Bounds {
     pub values: u64,
 }
 
-pub const SMALL: Bounds = Bounds {
+const SMALL: Bounds = Bounds {
     items: 120,
     actions: 80,
     labels: 12,
@@ -33,7 +34,7 @@ pub const SMALL: Bounds = Bounds {
 };
 
 /// No value needs a message, and no label can be one's.
-pub const WITHOUT_CURVES: Bounds = Bounds { values: 0, ..SMALL };
+const WITHOUT_CURVES: Bounds = Bounds { values: 0, ..SMALL };
 
 /// A sound score of any size.
 pub fn invent(random: &mut Random) -> Sketch {
@@ -69,6 +70,16 @@ pub fn piece(random: &mut Random) -> Sketch {
             return sketch;
         }
     }
+}
+
+/// A small sound score to which something is added at the end.
+pub fn base(random: &mut Random) -> Sketch {
+    sketch(random, SMALL)
+}
+
+/// One in which every message is in the list, and none is a number's.
+pub fn base_without_curves(random: &mut Random) -> Sketch {
+    sketch(random, WITHOUT_CURVES)
 }
 
 pub fn sketch(random: &mut Random, bounds: Bounds) -> Sketch {
@@ -374,39 +385,8 @@ impl Maker<'_> {
 
 // ---------------------------------------------------------------- pieces
 
-/// A group with any words that holds nothing.
-pub fn group(random: &mut Random) -> Figure {
-    Figure {
-        entry: Entry {
-            kind: GROUP,
-            synchrony: random.below(2) as u8,
-            error: random.below(4) as u8,
-            ..Entry::default()
-        },
-        ..Figure::default()
-    }
-}
-
-/// A loop of so many empty passes.
-pub fn looped(random: &mut Random, passes: u16) -> Figure {
-    let mut figure = group(random);
-    figure.entry.kind = LOOP;
-    figure.each = random.pick(&[0, 1, 5_040, LONGEST_TIME]);
-    figure.times = passes;
-    figure
-}
-
-/// A curve that takes so many points.
-pub fn curve(random: &mut Random, step: u32, points: usize) -> Figure {
-    let mut figure = group(random);
-    figure.entry.kind = CURVE;
-    figure.each = step;
-    figure.times = points as u16;
-    figure
-}
-
 /// How many values the points give.
-pub fn count(points: &[Point], step: u32) -> u64 {
+fn count(points: &[Point], step: u32) -> u64 {
     let steps = points.iter().map(|point| u64::from(point.span / step));
     steps.sum::<u64>() + 1
 }
@@ -422,7 +402,7 @@ pub fn word(random: &mut Random) -> Vec<u8> {
 }
 
 /// A label with a number's digits that is none of the numbers' own: '007', '-0'.
-pub fn looks_like(random: &mut Random, value: i64) -> Vec<u8> {
+fn looks_like(random: &mut Random, value: i64) -> Vec<u8> {
     let size = value.unsigned_abs();
     let label = match random.below(9) {
         0 => format!("0{size}"),
@@ -453,14 +433,4 @@ fn known_messages(score: &Extended) -> u64 {
     values.dedup();
     values.retain(|value| !labels.contains(&value.to_string().as_bytes()));
     (labels.len() + values.len()) as u64
-}
-
-/// The last event and part, where anything may be added at the table's end.
-pub fn at_the_end(score: &Extended, figure: Figure) -> Figure {
-    let entry = Entry {
-        part: LAST_PART,
-        event: score.durations.len() as u16,
-        ..figure.entry
-    };
-    Figure { entry, ..figure }
 }

@@ -1,6 +1,7 @@
 //! What Poolmirror must do, worked out a second time from the paper alone, and
 //! a comparison with any program that should do it.
 
+mod additions;
 mod bounds;
 mod case;
 mod commands;
@@ -9,7 +10,11 @@ mod damage;
 mod extended;
 mod extended_cases;
 mod extended_faults;
+mod extended_file_faults;
 mod extended_limits;
+mod extended_refusals;
+mod extended_specials;
+mod extended_words;
 mod figures;
 mod lines;
 mod mutant;
@@ -100,9 +105,7 @@ fn run(arguments: &[OsString]) -> Result<bool, Fault> {
             Ok(true)
         }
         ("texts", [seed, count, out]) => texts(number(seed)?, number(count)?, Path::new(out)),
-        ("extended", [seed, count, out]) => {
-            extended(number(seed)?, number(count)?, Path::new(out))
-        }
+        ("extended", [seed, count, out]) => extended(number(seed)?, number(count)?, Path::new(out)),
         ("words", []) => Ok(tally(words::words())),
         _ => Err(Fault::Arguments),
     }

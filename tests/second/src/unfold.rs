@@ -39,7 +39,7 @@ fn past_a_limit(why: Why) -> Result<(), Fault> {
 /// What the contents tell of the unfolded score. Every item becomes at least one.
 fn contents_in_limits(score: &Extended) -> Result<(), Fault> {
     let events = score.durations.len() as u64;
-    if events < 1 || events > MOST_EVENTS {
+    if !(1..=MOST_EVENTS).contains(&events) {
         return past_a_limit(Why::Events);
     }
     if score.items.len() as u64 > MOST_ITEMS {

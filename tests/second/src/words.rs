@@ -1,5 +1,6 @@
 //! The paper's own small scores, with the values it gives written out by hand.
 
+use crate::extended_words::extended_words;
 use crate::lines::{line, reason, shown, verdict};
 use crate::odd::{self, What};
 use crate::play::play;
@@ -180,6 +181,7 @@ pub fn words() -> (u64, u64) {
     scattered(&mut tally);
     odd_entries(&mut tally);
     text_words(&mut tally);
+    extended_words(&mut tally);
     (tally.passed, tally.failed)
 }
 
