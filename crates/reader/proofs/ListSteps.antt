@@ -26,7 +26,8 @@ use Rattle.script.specs.Balanced.{BeforeEvent, behind-list, behind-event, behin
 use Rattle.reader.specs.declared.turns.Turn.{Turn}
 use Rattle.reader.specs.declared.listing.Label.{Label}
 use Rattle.reader.specs.Turns.{Turnable, Turns, noLabel, labelIn}
-use Rattle.reader.specs.Filled.{Tellable, Headed, Begun, ListRoom, Listed}
+use Rattle.reader.specs.Filled.{Tellable, Headed, Begun, Listed}
+use Rattle.filing.specs.Bodies.{ListRoom}
 use Rattle.reader.proofs.TurnSteps.{turn-less}
 
 -- ---- the label of a message

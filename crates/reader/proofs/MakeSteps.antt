@@ -27,7 +27,8 @@ use Rattle.score.specs.Piece.{Piece}
 use Rattle.score.specs.Encode.{countsIn, encode}
 use Rattle.score.specs.File.{checked}
 use Rattle.score.proofs.EncodingPieces.{size-encode}
-use Rattle.filing.specs.Pieces.{filed, Filable}
+use Rattle.filing.specs.Pieces.{filed}
+use Rattle.filing.specs.Bodies.{Bodies, fileIn, settled, Settled}
 use Rattle.text.specs.declared.Stage.the-variants.{Start}
 use Rattle.text.specs.declared.Transcript.{Transcript}
 use Rattle.text.specs.declared.Transcript.the-variants.{Made, NoRoom, BadText, BadFile}
@@ -38,39 +39,9 @@ use Rattle.script.specs.declared.Tally.{Tally}
 use Rattle.script.specs.declared.Tally.the-variants as tally
 use Rattle.script.specs.Tallies.{tallyOf}
 use Rattle.script.proofs.BalancedLaws.{counted-balanced, counted-said, counts-said}
-use Rattle.reader.specs.Filled.{Begun, Listed, Paged, Bodies, fileIn, Writable, Settles, Sayable, Answers}
+use Rattle.reader.specs.Filled.{Begun, Listed, Paged, Writable, Settles, Sayable, Answers}
 
 -- ---- the bodies and the file
-
-module _ (c : Counts) (d m e l out : List ℕ) (asked : Bodies c d m e l out) where
-  pub durations-end : eventSize * c .events ≤ length d
-  durations-end = omega (arith, asked .counted .events, asked .page .durations)
-
-  pub items-end : itemSize * c .items ≤ length m
-  items-end = omega (arith, asked .counted .items, asked .page .items)
-
-  pub entries-end : messageSize * c .messages ≤ length e
-  entries-end = omega (arith, asked .counted .messages, asked .list .entries)
-
-  pub labels-end : c .text ≤ length l
-  labels-end = omega (arith, asked .counted .text, asked .list .labels)
-
-  pub join-asked : Filable c (take (eventSize * c .events) d) (take (itemSize * c .items) m) (take (messageSize * c .messages) e) (take (c .text) l) out
-  join-asked =
-      let k = asked .counted in
-      let r = asked .room in
-      let a = length-take-le (eventSize * c .events) d durations-end in
-      let b = length-take-le (itemSize * c .items) m items-end in
-      let f = length-take-le (messageSize * c .messages) e entries-end in
-      let g = length-take-le (c .text) l labels-end in
-      record { counted = k; room = rw (a, b, f, g) (omega arith) }
-
-  pub joined : (n : List ℕ) (r : ℕ) → Laid out 0 (filed c (take (eventSize * c .events) d) (take (itemSize * c .items) m) (take (messageSize * c .messages) e) (take (c .text) l)) n r
-      → Laid out 0 (fileIn c d m e l) n r
-  unfolding fileIn
-  joined n r p = p
-
-pub ruleset joins = (durations-end, items-end, entries-end, labels-end, join-asked, joined, length-take-le, needs)
 
 module _ (t : List ℕ) (c : Counts) (out : List ℕ) (asked : Writable t c out) where
   counted : Counted c
@@ -102,25 +73,23 @@ counts-right c k =
       le-leb (c .text) mostText (k .text),
     )
 
--- what is laid from the front on stands there, and what stands behind it stays
-room-is : (o n bs : List ℕ) (r : ℕ) → Laid o 0 bs n r → n ≡ bs ++ drop r o
-room-is o n bs r laid = sym (take-append-drop r n) ∙ rw (laid .others) (ap (λ (l : List ℕ). l ++ drop r o) (laid .front))
-
 last-told : (w : Check Fault) → firstFault (w ∷ []) ≡ w
 unfolding firstFault
 last-told fine = refl
 last-told (refused x) = refl
 
-module _ (f m : List ℕ) (v : Verdict) (e : v ≡ verdictOf (checked f)) where
-  pub settle-refused : (x : Fault) → v ≡ Refused x → Settles f m m (BadFile x)
-  unfolding judged roomLeft
-  settle-refused x p = record { answer = rw (verdict-refused (checked f) v x e p); left = refl }
+module _ (f m m′ : List ℕ) (v : Verdict) (a : Settled f m m′ v) where
+  pub settle-refused : (x : Fault) → v ≡ Refused x → Settles f m m′ (BadFile x)
+  unfolding judged roomLeft settled
+  settle-refused x p =
+      let z = verdict-refused (checked f) v x (a .verdict) p in
+      record { answer = rw z; left = rw z at (a .left) }
 
-  pub settle-made : v ≡ Fine → (m′ : List ℕ) (r : ℕ) → Laid m 0 f m′ r → Settles f m m′ (Made (length f))
-  unfolding judged roomLeft
-  settle-made p m′ r put =
-      let n : r ≡ length f = omega (arith, put .stop) in
-      record { answer = rw (verdict-fine (checked f) v e p); left = rw n at (room-is m m′ f r put) }
+  pub settle-made : v ≡ Fine → Settles f m m′ (Made (length f))
+  unfolding judged roomLeft settled
+  settle-made p =
+      let z = verdict-fine (checked f) v (a .verdict) p in
+      record { answer = rw z; left = rw z at (a .left) }
 
 pub ruleset settles = (settle-refused, settle-made, needs)
 

@@ -25,7 +25,8 @@ use Rattle.script.specs.Balanced.{Balanced}
 use Rattle.reader.specs.declared.turns.Turn.{Turn}
 use Rattle.reader.specs.Items.{sendItem, groupItem}
 use Rattle.reader.specs.Turns.{Turnable, Turns}
-use Rattle.reader.specs.Filled.{Tellable, Begun, PageRoom, RowRoom, Paged}
+use Rattle.reader.specs.Filled.{Tellable, Begun, RowRoom, Paged}
+use Rattle.filing.specs.Bodies.{PageRoom}
 use Rattle.reader.proofs.RunLaws.{openIn, root, run, run-page}
 use Rattle.reader.proofs.TurnSteps.{turn-less}
 use Rattle.reader.proofs.GoingLaws.{Going, open-heading, open-message, open-event, open-part, open-group, open-close, going-heading, going-message, going-part, event-owed, going-event, send-owed, going-send, group-owed, going-group, closing, going-close}

@@ -9,7 +9,7 @@ use Rattle.contents.specs.Limits.{eventSize, itemSize, messageSize, mostEvents,
 use Rattle.contents.specs.Inner.{Counted}
 use Rattle.score.specs.Encode.{durationBytes, itemBytes, entryBytes, textBytes, countsIn}
 use Rattle.score.specs.File.{checked}
-use Rattle.filing.specs.Pieces.{filed}
+use Rattle.filing.specs.Bodies.{PageRoom, ListRoom}
 use Rattle.script.specs.Balanced.{Balanced}
 use Rattle.text.specs.declared.Stage.the-variants.{Start, Listing}
 use Rattle.text.specs.Grammar.{script}
@@ -38,10 +38,6 @@ pub record Begun (t : List ℕ) (at n : ℕ) : Type 0 where
   pub durations : durationsOf (script (Listing n) (drop at t)) ≡ durationsOf (script Start t)
   pub items : itemsOf 0 0 0 (script (Listing n) (drop at t)) ≡ itemsOf 0 0 0 (script Start t)
 
-pub record ListRoom (e l : List ℕ) : Type 0 where
-  pub entries : messageSize * mostMessages ≤ length e
-  pub labels : mostText ≤ length l
-
 -- The entries and the labels stand at the front of their bytes, and the page begins here.
 pub record Listed (t e l : List ℕ) (r : ℕ) : Type 0 where
   pub entries : take (messageSize * length (labelsOf (script Start t))) e ≡ entryBytes 0 (labelsOf (script Start t))
@@ -50,10 +46,6 @@ pub record Listed (t e l : List ℕ) (r : ℕ) : Type 0 where
   pub room : ListRoom e l
 
 -- ---- the page
-
-pub record PageRoom (d m : List ℕ) : Type 0 where
-  pub durations : eventSize * mostEvents ≤ length d
-  pub items : itemSize * mostItems ≤ length m
 
 -- What an item asks: room behind the first n, and numbers that fit their fields.
 pub record RowRoom (m : List ℕ) (n e p d : ℕ) : Type 0 where
@@ -69,17 +61,6 @@ pub record Paged (t d m : List ℕ) : Type 0 where
   pub room : PageRoom d m
 
 -- ---- the file
-
--- The counts are right, and there is room for each body and for the file.
-pub record Bodies (c : Counts) (durations items entries labels out : List ℕ) : Type 0 where
-  pub counted : Counted c
-  pub page : PageRoom durations items
-  pub list : ListRoom entries labels
-  pub room : longestScore ≤ length out
-
--- The file of the bodies at the fronts of these bytes.
-unfoldable pub fileIn : Counts → (durations items entries labels : List ℕ) → List ℕ
-fileIn c d m e l = filed c (take (eventSize * c .events) d) (take (itemSize * c .items) m) (take (messageSize * c .messages) e) (take (c .text) l)
 
 -- The text has no fault, these are the counts of what it says, and there is room for a file.
 pub record Writable (t : List ℕ) (c : Counts) (out : List ℕ) : Type 0 where

@@ -1,7 +1,8 @@
 // The message list: each label's entry and its bytes.
 ghost use mathlib.Core.Path.{_≡_};
 ghost use Rattle.reader.specs.Turns.{noLabel, labelIn};
-ghost use Rattle.reader.specs.Filled.{Tellable, Headed, ListRoom, Listed};
+ghost use Rattle.filing.specs.Bodies.{ListRoom};
+ghost use Rattle.reader.specs.Filled.{Tellable, Headed, Listed};
 use crate::turns::next_line;
 use contents::limits::MESSAGE_SIZE;
 use filing::put_entry;

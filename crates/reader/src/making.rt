@@ -11,19 +11,15 @@ ghost use Rattle.text.specs.Said.{pieceOf};
 ghost use Rattle.text.specs.Transcripts.{faultAt};
 ghost use Rattle.contents.specs.Inner.{Counted};
 ghost use Rattle.contents.specs.Limits.{longestScore};
-ghost use Rattle.reader.specs.Filled.{Bodies, fileIn, Writable, Settles, Sayable, Answers};
+ghost use Rattle.reader.specs.Filled.{Writable, Settles, Sayable, Answers};
 use crate::listing::fill_list;
 use crate::paging::fill_page;
-use ascii::put_bytes;
 use contents::Counts;
 use contents::Verdict;
 use contents::check_counts;
-use contents::limits::EVENT_SIZE;
-use contents::limits::ITEM_SIZE;
 use contents::limits::LONGEST_SCORE;
-use contents::limits::MESSAGE_SIZE;
-use filing::put_file;
-use score::check_file;
+use filing::join;
+use filing::settle_file;
 use text::Transcript;
 use tokens::place_behind;
 
@@ -35,32 +31,6 @@ const ITEMS_ROOM: usize = 24576;
 const ENTRIES_ROOM: usize = 2048;
 
 const LABELS_ROOM: usize = 24576;
-
-// The file of the bodies at the fronts of these bytes, from the front of `out`. Answers its length.
-fn join(
-    out: &mut [u8],
-    c: Counts,
-    durations: &[u8],
-    items: &[u8],
-    entries: &[u8],
-    labels: &[u8],
-) -> usize
-    requires { ⌜ Bodies c (now durations) (now items) (now entries) (now labels) (now out) ⌝ }
-    ensures { λ r. ⌜ Laid (now (out .entry)) 0 (fileIn c (now (durations .entry)) (now (items .entry)) (now (entries .entry)) (now (labels .entry))) (now (out .exit)) r ⌝ }
-{
-    let a = EVENT_SIZE * c.events;
-    let b = ITEM_SIZE * c.items;
-    let d = MESSAGE_SIZE * c.messages;
-    let e = c.text;
-    put_file(
-        out,
-        c,
-        &durations[..a],
-        &items[..b],
-        &entries[..d],
-        &labels[..e],
-    )
-}
 
 // The second pass: the file of what the text says, from the front of `out`. Answers its length.
 fn write_file(text: &[u8], c: Counts, out: &mut [u8]) -> usize
@@ -81,12 +51,9 @@ fn settle(file: &[u8], room: &mut [u8]) -> Transcript
     requires { ⌜ length (now file) ≤ length (now room) ⌝ }
     ensures { λ r. ⌜ Settles (now (file .entry)) (now (room .entry)) (now (room .exit)) r ⌝ }
 {
-    let checked = check_file(file);
-    match checked {
-        Verdict::Fine => {
-            put_bytes(room, 0, file);
-            Transcript::Made { size: file.len() }
-        }
+    let settled = settle_file(file, room);
+    match settled {
+        Verdict::Fine => Transcript::Made { size: file.len() },
         Verdict::Refused(fault) => Transcript::BadFile { fault },
     }
 }

@@ -1,8 +1,8 @@
 -- The bodies lie at the fronts of their bytes.
 -- Assumes nothing.
-use Rattle.reader.proofs.MakeSteps.{joins}
-use Rattle.reader.proofs.making.join.Statement.{statement}
-use Rattle.reader.proofs.making.join.Tie as tie
+use Rattle.filing.proofs.BodySteps.{joins}
+use Rattle.filing.proofs.bodies.join.Statement.{statement}
+use Rattle.filing.proofs.bodies.join.Tie as tie
 
 mul-a : tie.Need-mul-a
 mul-a c = search joins
