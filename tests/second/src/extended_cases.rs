@@ -18,31 +18,79 @@ pub struct Case {
     pub input: Vec<u8>,
 }
 
-/// Of so many seeds in a row one is big, the others share out the sorts below.
+/// What sort of case a seed's is. A number says which of the sorts of its kind,
+/// that take turns.
+#[derive(Clone, Copy, PartialEq, Debug)]
+pub enum Plan {
+    Big(u64),
+    /// With loops and curves, or with neither.
+    Sound,
+    Ordinary,
+    Special(u64),
+    AtALimit(u64),
+    Fault(u64),
+    Contents(u64),
+    FileFault(u64),
+    Scattered,
+    WrongTwice,
+}
+
+/// So many seeds in a row share out the plans.
 const TURNS: u64 = 125;
+
+impl Plan {
+    pub fn of_seed(seed: u64) -> Plan {
+        let (round, turn) = (seed / TURNS, seed % TURNS);
+        // Which sort it is, where so many turns from `first` on have sorts.
+        let sort = |first: u64, turns: u64, sorts: u64| (turns * round + turn - first) % sorts;
+        match turn {
+            0..=1 => Plan::Big(sort(0, 2, BIG_SORTS)),
+            2..=45 => Plan::Sound,
+            46..=52 => Plan::Ordinary,
+            53..=58 => Plan::Special(sort(53, 6, specials::SORTS)),
+            59..=76 => Plan::AtALimit(sort(59, 18, limits::SORTS)),
+            77..=92 => Plan::Fault(sort(77, 16, faults::SORTS)),
+            93..=97 => Plan::Contents(sort(93, 5, faults::CONTENTS_SORTS)),
+            98..=112 => Plan::FileFault(sort(98, 15, file_faults::SORTS)),
+            113..=117 => Plan::Scattered,
+            _ => Plan::WrongTwice,
+        }
+    }
+
+    /// Is nothing to come before what the plan is there to show?
+    fn needs_room(self) -> bool {
+        matches!(
+            self,
+            Plan::Big(_)
+                | Plan::Special(_)
+                | Plan::AtALimit(_)
+                | Plan::Fault(_)
+                | Plan::Contents(_)
+                | Plan::FileFault(_)
+        )
+    }
+}
 
 impl Case {
     pub fn of_seed(seed: u64) -> Case {
         let random = &mut Random::new(seed);
-        let (round, turn) = (seed / TURNS, seed % TURNS);
-        // The sorts of so many turns from `first` on take turns, too.
-        let sort = |first: u64, turns: u64, sorts: u64| (turns * round + turn - first) % sorts;
-        let input = match turn {
-            0 => big(random, round),
-            1..=42 => invent(random).score.encode(),
-            43..=49 => Extended::of_tables(scores::invent(random).tables).encode(),
-            50..=55 => specials::special(random, sort(50, 6, specials::SORTS)).encode(),
-            56..=73 => limits::at_a_limit(random, sort(56, 18, limits::SORTS)).encode(),
-            74..=89 => spoiled(random, sort(74, 16, faults::SORTS)),
-            90..=94 => spoiled_contents(random, sort(90, 5, CONTENTS_SORTS)),
-            95..=109 => spoiled_file(random, sort(95, 15, file_faults::SORTS)),
-            110..=116 => scattered(random),
-            _ => wrong_twice(random, sort(117, 8, limits::SORTS)),
+        let plan = Plan::of_seed(seed);
+        let input = match plan {
+            Plan::Big(sort) => big(random, sort),
+            Plan::Sound => invent(random).score.encode(),
+            Plan::Ordinary => Extended::of_tables(scores::invent(random).tables).encode(),
+            Plan::Special(sort) => specials::special(random, sort).encode(),
+            Plan::AtALimit(sort) => limits::at_a_limit(random, sort).encode(),
+            Plan::Fault(sort) => spoiled(random, sort),
+            Plan::Contents(sort) => spoiled_contents(random, sort),
+            Plan::FileFault(sort) => spoiled_file(random, sort),
+            Plan::Scattered => scattered(random),
+            Plan::WrongTwice => wrong_twice(random),
         };
-        let room = match turn {
-            // Where each sort must show, nothing comes before it.
-            50..=109 => enough(random),
-            _ => any_room(random),
+        let room = if plan.needs_room() {
+            enough(random)
+        } else {
+            any_room(random)
         };
         Case { room, input }
     }
@@ -125,8 +173,9 @@ fn scattered(random: &mut Random) -> Vec<u8> {
 
 /// A limit, something that can't be unfolded, something that the file check finds:
 /// two of them or all three, so that their order shows.
-fn wrong_twice(random: &mut Random, limit: u64) -> Vec<u8> {
+fn wrong_twice(random: &mut Random) -> Vec<u8> {
     let left_out = random.below(4);
+    let limit = random.below(limits::SORTS);
     let mut score = match left_out {
         0 => piece(random).score,
         _ => limits::at_a_limit(random, limit),
@@ -150,21 +199,21 @@ fn wrong_twice(random: &mut Random, limit: u64) -> Vec<u8> {
 // ------------------------------------------------------------------- big
 
 /// How many sorts of big inputs there are.
-const BIG_SORTS: u64 = 11;
+pub const BIG_SORTS: u64 = 11;
 
-/// Something that is far past a limit, often with a fault far behind; the sorts
-/// take turns. None has 1,500,000 bytes.
-fn big(random: &mut Random, turn: u64) -> Vec<u8> {
+/// Something that is far past a limit, often with a fault far behind. None has
+/// 1,500,000 bytes.
+fn big(random: &mut Random, sort: u64) -> Vec<u8> {
     let mut score = small(random);
-    match turn % BIG_SORTS {
+    match sort {
         0 => nested_groups(random, &mut score),
         1 => nested_loops(random, &mut score),
         2 => nested_anyhow(random, &mut score),
         3 => many_points(random, &mut score),
         4 => many_curves(random, &mut score),
         5 => many_points_left_over(random, &mut score),
-        6 => score.text.resize(1_000_000, b't'),
-        7 => (0..100_000).for_each(|_| score.add_message(b"m")),
+        6 => score.text.resize(100_000, b't'),
+        7 => (0..66_000).for_each(|_| score.add_message(b"m")),
         8 => score.durations.resize(70_000, 5_040),
         9 => many_items(random, &mut score),
         _ => wide_group(random, &mut score),
@@ -185,13 +234,13 @@ fn small(random: &mut Random) -> Extended {
 }
 
 fn nested_groups(random: &mut Random, score: &mut Extended) {
-    let count = random.pick(&[2_048, 2_049, 60_000, 65_535, 65_536]);
+    let count = random.pick(&[2_048, 2_049, 10_000, 65_536]);
     add_chain(score, &vec![group(random); count]);
     overrun_inmost(random, score);
 }
 
 fn nested_loops(random: &mut Random, score: &mut Extended) {
-    let count = random.pick(&[1_000, 60_000, 65_536]);
+    let count = random.pick(&[1_000, 10_000, 65_536]);
     let passes = random.pick(&[1, 2, 256]);
     add_chain(score, &vec![looped(random, passes); count]);
     overrun_inmost(random, score);
@@ -199,7 +248,7 @@ fn nested_loops(random: &mut Random, score: &mut Extended) {
 
 fn nested_anyhow(random: &mut Random, score: &mut Extended) {
     let mut chain = Vec::new();
-    for _ in 0..random.pick(&[500, 50_000]) {
+    for _ in 0..random.pick(&[500, 10_000, 60_000]) {
         let figure = match random.below(2) {
             0 => group(random),
             _ => looped(random, 256),
@@ -233,7 +282,7 @@ fn many_points(random: &mut Random, score: &mut Extended) {
 }
 
 fn many_curves(random: &mut Random, score: &mut Extended) {
-    let count = random.pick(&[1_024, 1_025, 40_000]);
+    let count = random.pick(&[1_024, 1_025, 20_000]);
     let figure = curve(random, 7, 1);
     let figure = at_the_end(score, figure);
     score.items.resize(count, figure);
@@ -246,13 +295,13 @@ fn many_curves(random: &mut Random, score: &mut Extended) {
 fn many_points_left_over(random: &mut Random, score: &mut Extended) {
     let figure = group(random);
     score.items.push(at_the_end(score, figure));
-    let count = random.pick(&[65_536, 131_072, 150_000]);
+    let count = random.pick(&[65_536, 70_000]);
     score.points.resize(count, Point::default());
 }
 
 /// More top items than sixteen bits count.
 fn many_items(random: &mut Random, score: &mut Extended) {
-    let count = random.pick(&[65_536, 65_537, 70_000]);
+    let count = random.pick(&[2_050, 65_536, 65_537]);
     let empty = group(random);
     let figure = random.pick(&[Figure::default(), empty]);
     let figure = at_the_end(score, figure);

@@ -2,7 +2,7 @@
 //! curves, their messages; and what the cases of `extended` must show.
 
 use crate::extended::{Extended, Fault, Figure, Point, Why, ACTION, CURVE, GROUP, LOOP};
-use crate::extended_cases::{lines, Case};
+use crate::extended_cases::{lines, Case, Plan, BIG_SORTS};
 use crate::extended_faults as faults;
 use crate::extended_file_faults as file_faults;
 use crate::extended_limits::{self as limits, Past};
@@ -28,6 +28,7 @@ pub fn extended_words(tally: &mut Tally) {
     records_and_lines(tally);
     sound_ones(tally);
     sorts(tally);
+    plans(tally);
     shown(tally);
 }
 
@@ -448,10 +449,12 @@ fn found_in_the_list(tally: &mut Tally) {
         let text = [&score.text[..], added.as_bytes()].concat();
         let file = unfold(&score.encode(), FILE_ROOM).unwrap_or_default();
         // The group stands at 36, its actions from 48 on.
-        let number = |at: usize| u16::from_le_bytes([file[at + 10], file[at + 11]]);
+        let number = |at: usize| file.get(at + 10..at + 12);
         let right = file.ends_with(&text)
             && score::u32_at(&file, 28) == text.len() as u64
-            && (0..numbers.len()).all(|index| number(48 + 12 * index) == numbers[index]);
+            && numbers.iter().enumerate().all(|(index, expected)| {
+                number(48 + 12 * index) == Some(&expected.to_le_bytes()[..])
+            });
         tally.note(&format!("extended: {list:?} with {labels:?} there"), right);
     }
     curves_share_messages(tally);
@@ -571,6 +574,28 @@ fn sorts(tally: &mut Tally) {
         let right =
             numbers.iter().any(|number| [6, 7, 8].contains(number)) && !numbers.contains(&17);
         tally.note(&format!("extended: sort {sort} of the file's"), right);
+    }
+}
+
+/// Every sort of case is among 1,000 seeds, and among any 3,000 in a row.
+fn plans(tally: &mut Tally) {
+    let mut all = vec![
+        Plan::Sound,
+        Plan::Ordinary,
+        Plan::Scattered,
+        Plan::WrongTwice,
+    ];
+    all.extend((0..BIG_SORTS).map(Plan::Big));
+    all.extend((0..specials::SORTS).map(Plan::Special));
+    all.extend((0..limits::SORTS).map(Plan::AtALimit));
+    all.extend((0..faults::SORTS).map(Plan::Fault));
+    all.extend((0..faults::CONTENTS_SORTS).map(Plan::Contents));
+    all.extend((0..file_faults::SORTS).map(Plan::FileFault));
+    for (first, count) in [(1, 1_000), (1, 3_000), (62, 3_000), (1 << 60, 3_000)] {
+        let plans: Vec<Plan> = (first..first + count).map(Plan::of_seed).collect();
+        let right = all.iter().all(|plan| plans.contains(plan));
+        let name = format!("extended: every sort among {count} seeds from {first} on");
+        tally.note(&name, right);
     }
 }
 
