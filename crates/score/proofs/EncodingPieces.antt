@@ -46,7 +46,7 @@ unfolding entryBytes le16
 entries-size from [] = refl
 entries-size from (l ∷ ls) = omega (arith, entries-size (from + length l) ls)
 
-contents-size : (c : Counts) → length (contentsBytes c) ≡ contentsSize
+pub contents-size : (c : Counts) → length (contentsBytes c) ≡ contentsSize
 unfolding contentsBytes le32 le16
 contents-size c = refl
 
