@@ -120,6 +120,49 @@ fn run_text(word: &[u8], file: &[u8]) -> Told {
     read_again(&written, text::replied_text(t).size)
 }
 
+// The extended score with the largest result: read, unfolded, and, for another word, the unfolded file checked.
+fn run_unfolding(word: &[u8]) -> Told {
+    let mut extended = [0u8; 65536];
+    let size = io::read_full(os::open_read(b"folded.bin"), &mut extended);
+    if same(word, b"seen") {
+        return Told {
+            number: 0,
+            figure: 0,
+        };
+    }
+    let mut room = [0u8; FILE_ROOM];
+    let r = unfolding::replied_unfolding(unfolder::unfold(&extended[..size], &mut room));
+    if same(word, b"fold") {
+        return Told {
+            number: r.number,
+            figure: r.size as u64 % 65536,
+        };
+    }
+    check_made(&room, r.size)
+}
+
+fn check_made(room: &[u8], size: usize) -> Told {
+    if room.len() < size {
+        return Told {
+            number: 0,
+            figure: 0,
+        };
+    }
+    let from = 0;
+    tell_check(score::check_file(&room[from..size]))
+}
+
+// Whether the word is one of unfolding's.
+fn unfolds(word: &[u8]) -> bool {
+    if same(word, b"seen") {
+        return true;
+    }
+    if same(word, b"fold") {
+        return true;
+    }
+    same(word, b"made")
+}
+
 fn run(word: &[u8], file: &[u8], mem: &mut [u64], room: &mut [u64]) -> Told {
     if same(word, b"none") {
         return Told {
@@ -138,6 +181,9 @@ fn run(word: &[u8], file: &[u8], mem: &mut [u64], room: &mut [u64]) -> Told {
     }
     if same(word, b"read") {
         return run_text(word, file);
+    }
+    if unfolds(word) {
+        return run_unfolding(word);
     }
     let opened = open_score(mem, file);
     run_session(word, mem, room, opened)

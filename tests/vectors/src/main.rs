@@ -1,7 +1,7 @@
 //! Writes test vectors for the score file: `vectors DIR` makes
 //! `DIR/data/vectors.bin` and `DIR/stdout`. `vectors DIR examples` makes
 //! `DIR/NAME/score.bin` for each of the pieces under examples/, and `vectors DIR
-//! largest` makes `DIR/largest.bin`.
+//! largest` makes `DIR/largest.bin` and `DIR/folded.bin`.
 //!
 //! Every expected number, place and label is written down beside its vector,
 //! from the words of document 01 that are quoted there; no file is checked by
@@ -19,6 +19,7 @@ mod book;
 mod contents;
 mod events;
 mod examples;
+mod folded;
 mod items;
 mod large;
 mod largest;
@@ -56,7 +57,8 @@ fn write_examples(dir: &Path) -> std::io::Result<()> {
 
 fn write_largest(dir: &Path) -> std::io::Result<()> {
     std::fs::create_dir_all(dir)?;
-    std::fs::write(dir.join("largest.bin"), largest::score().bytes())
+    std::fs::write(dir.join("largest.bin"), largest::score().bytes())?;
+    std::fs::write(dir.join("folded.bin"), folded::bytes())
 }
 
 fn main() -> ExitCode {
