@@ -3,10 +3,10 @@ ghost use mathlib.Core.Path.{_≡_};
 ghost use Prim.Native.Nat.{_≤_};
 ghost use lib.ListN.{length};
 ghost use Rattle.contents.specs.Limits.{longestScore};
-ghost use Rattle.unfolder.specs.Inner.{Answers, Measured, Numerated};
+ghost use Rattle.unfolder.specs.Inner.{Answers, Measured, Nameable, Listed};
+use crate::finishing::finish;
 use building::build_page;
 use contents::Counts;
-use crate::finishing::finish;
 use extended::Extent;
 use extended::layout::items_start;
 use naming::Naming;
@@ -33,11 +33,18 @@ fn lay(
     labels: &[u8],
     room: &mut [u8],
 ) -> Unfolding
-    requires { ⌜ Numerated (now extended) c (now table) (now numbers) k (now entries) (now labels) × (longestScore ≤ length (now room)) ⌝ }
+    requires { ⌜ Listed (now extended) c (now table) (now numbers) k (now entries) (now labels) × (longestScore ≤ length (now room)) ⌝ }
     ensures { λ r. ⌜ Answers (now (extended .entry)) (now (room .entry)) (now (room .exit)) r ⌝ }
 {
     let mut items = [0; ITEMS_ROOM];
-    build_page(extended, items_start(c), table, numbers, c.items, &mut items);
+    build_page(
+        extended,
+        items_start(c),
+        table,
+        numbers,
+        c.items,
+        &mut items,
+    );
     finish(extended, k, &items, entries, labels, room)
 }
 
@@ -57,7 +64,15 @@ fn name(
     let mut entries = [0; ENTRIES_ROOM];
     let mut labels = [0; LABELS_ROOM];
     let mut numbers = [0; VALUES_ROOM];
-    let named = name_values(extended, c, values, count, &mut entries, &mut labels, &mut numbers);
+    let named = name_values(
+        extended,
+        c,
+        values,
+        count,
+        &mut entries,
+        &mut labels,
+        &mut numbers,
+    );
     let Naming::Named { messages, text } = named else {
         return Unfolding::OverLimit;
     };

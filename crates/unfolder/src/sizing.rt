@@ -3,8 +3,9 @@ ghost use mathlib.Core.Path.{_≡_};
 ghost use Prim.Native.Nat.{_≤_};
 ghost use lib.ListN.{length};
 ghost use Rattle.contents.specs.Limits.{longestScore};
-ghost use Rattle.extended.specs.Inner.{Foldable};
-ghost use Rattle.unfolder.specs.Inner.{few, Answers};
+ghost use Rattle.base.specs.Checks.{fine};
+ghost use Rattle.extended.specs.Right.{extendedRight};
+ghost use Rattle.unfolder.specs.Inner.{few, Sizable, Answers};
 use crate::numbering::number;
 use contents::limits::MOST_EVENTS;
 use contents::limits::MOST_ITEMS;
@@ -57,7 +58,7 @@ fn size_page(extended: &[u8], c: Extent, table: &mut [u32], room: &mut [u8]) -> 
 }
 
 pub fn measure(extended: &[u8], room: &mut [u8]) -> Unfolding
-    requires { ⌜ Measurable (now extended) × (longestScore ≤ length (now room)) ⌝ }
+    requires { ⌜ (extendedRight (now extended) ≡ fine) × (longestScore ≤ length (now room)) ⌝ }
     ensures { λ r. ⌜ Answers (now (extended .entry)) (now (room .entry)) (now (room .exit)) r ⌝ }
 {
     let c = extent_of(extended);

@@ -1,0 +1,6 @@
+-- Laws of building.
+pub mod ShapeLaws
+pub mod NumberedLaws
+mod PageLaws
+mod PieceSteps
+mod BuildSteps

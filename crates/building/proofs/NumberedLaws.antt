@@ -1,0 +1,76 @@
+-- Numbered items unfolded one at a time: that the bound of the recursion does not matter, and the items of a table part by part.
+-- Assumes nothing.
+use mathlib.Core.Path.{_≡_, refl}
+use mathlib.Core.Bool.{Bool, true, false}
+use mathlib.Core.List.{List, [], _∷_}
+use Prim.Native.Nat.{ℕ, zero, suc, _+_, _-_, _<_, _≤_, min}
+use native.Mathlib.Omega.{arith}
+use lib.ListN.{length, take, drop, length-take, length-drop}
+use Rattle.unfolding.specs.Extended.{Numbered}
+use Rattle.unfolding.specs.Unfolded.{end, becomes, withinOf, unfoldedTo, unfolded}
+use Rattle.building.specs.Rows.{numberedAt, numberedIn}
+
+-- ---- any bound that is enough unfolds the same
+
+bound : (x y : ℕ) (is : List Numbered) → length is ≤ x → length is ≤ y → unfoldedTo x is ≡ unfoldedTo y is
+unfolding unfoldedTo
+bound zero zero is p q = refl
+bound zero (suc y) [] p q = refl
+bound zero (suc y) (i ∷ is) p q = absurd (omega arith)
+bound (suc x) zero [] p q = refl
+bound (suc x) zero (i ∷ is) p q = absurd (omega arith)
+bound (suc x) (suc y) [] p q = refl
+bound (suc x) (suc y) (i ∷ is) p q =
+    let t = length-take (withinOf i) is in
+    let d = length-drop (withinOf i) is in
+    let a : unfoldedTo x (take (withinOf i) is) ≡ unfoldedTo y (take (withinOf i) is) = bound x y (take (withinOf i) is) (omega arith) (omega arith) in
+    let b : unfoldedTo x (drop (withinOf i) is) ≡ unfoldedTo y (drop (withinOf i) is) = bound x y (drop (withinOf i) is) (omega arith) (omega arith) in
+    rw (a, b)
+
+pub unfolded-none : unfolded [] ≡ end
+unfolding unfolded unfoldedTo
+unfolded-none = refl
+
+pub unfolded-more : (i : Numbered) (is : List Numbered) → unfolded (i ∷ is) ≡ becomes i (unfolded (take (withinOf i) is)) (unfolded (drop (withinOf i) is))
+unfolding unfolded unfoldedTo
+unfolded-more i is =
+    let t = length-take (withinOf i) is in
+    let d = length-drop (withinOf i) is in
+    let a : unfoldedTo (length is) (take (withinOf i) is) ≡ unfoldedTo (length (take (withinOf i) is)) (take (withinOf i) is) = bound (length is) (length (take (withinOf i) is)) (take (withinOf i) is) (omega arith) (omega arith) in
+    let b : unfoldedTo (length is) (drop (withinOf i) is) ≡ unfoldedTo (length (drop (withinOf i) is)) (drop (withinOf i) is) = bound (length is) (length (drop (withinOf i) is)) (drop (withinOf i) is) (omega arith) (omega arith) in
+    rw (a, b)
+
+-- ---- the items of a table, part by part
+
+module _ (f : List ℕ) (start : ℕ) (table numbers : List ℕ) where
+  pub numbered-one : (k count : ℕ) → 0 < count → numberedIn f start table numbers k count ≡ numberedAt f start table numbers k ∷ numberedIn f start table numbers (k + 1) (count - 1)
+  unfolding numberedIn
+  numbered-one k zero p = absurd (omega arith)
+  numbered-one k (suc c) p = let s : suc c - 1 ≡ c = omega arith in rw s
+
+  pub numbered-none : (k count : ℕ) → count ≤ 0 → numberedIn f start table numbers k count ≡ []
+  unfolding numberedIn
+  numbered-none k zero p = refl
+  numbered-none k (suc c) p = absurd (omega arith)
+
+  pub numbered-take : (k count n : ℕ) → take n (numberedIn f start table numbers k count) ≡ numberedIn f start table numbers k (min n count)
+  unfolding numberedIn
+  numbered-take k zero zero = refl
+  numbered-take k zero (suc n) = let s : min (suc n) 0 ≡ 0 = omega arith in rw s
+  numbered-take k (suc c) zero = let s : min 0 (suc c) ≡ 0 = omega arith in rw s
+  numbered-take k (suc c) (suc n) =
+      let s : min (suc n) (suc c) ≡ suc (min n c) = omega arith in
+      rw (s, ← numbered-take (k + 1) c n)
+
+  pub numbered-drop : (k count n : ℕ) → drop n (numberedIn f start table numbers k count) ≡ numberedIn f start table numbers (k + min n count) (count - min n count)
+  unfolding numberedIn
+  numbered-drop k zero zero = refl
+  numbered-drop k zero (suc n) = let s : 0 - min (suc n) 0 ≡ 0 = omega arith in rw s
+  numbered-drop k (suc c) zero =
+      let s : k + min 0 (suc c) ≡ k = omega arith in
+      let t : suc c - min 0 (suc c) ≡ suc c = omega arith in
+      rw (s, t)
+  numbered-drop k (suc c) (suc n) =
+      let s : k + min (suc n) (suc c) ≡ k + 1 + min n c = omega arith in
+      let t : suc c - min (suc n) (suc c) ≡ c - min n c = omega arith in
+      rw (s, t) (numbered-drop (k + 1) c n)

@@ -1,0 +1,3 @@
+-- The items and values of an extended score in words.
+pub mod Tables
+pub mod Inner
