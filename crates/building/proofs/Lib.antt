@@ -1,6 +1,9 @@
--- Laws of building.
+-- Laws of building. For the crates above: the sizes of numbered items by their shapes, the least that they are, and the items that a table's rows stand for.
 pub mod ShapeLaws
-pub mod NumberedLaws
+pub mod KindLaws
+pub mod LeastLaws
+pub mod RowLaws
+mod NumberedLaws
 mod PageLaws
 mod PieceSteps
 mod BuildSteps

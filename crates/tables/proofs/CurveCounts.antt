@@ -1,14 +1,14 @@
 -- A curve's values span by span, and how many there are: as many as its spans have steps, and one more.
 -- Assumes nothing.
-use mathlib.Core.Path.{_≡_, refl, sym, ap, _∙_}
+use mathlib.Core.Path.{_≡_, refl, ap}
 use mathlib.Core.List.{List, [], _∷_, _++_}
 use Prim.Native.Nat.{ℕ, zero, suc, _+_, _-_, _*_, _/_, _<_, _≤_}
 use native.Mathlib.Omega.{arith}
 use native.Mathlib.Nat.{div-mul-le-self, mul-le-mul-left, mul-le-mul-right, suc-mul}
 use lib.IntN.{ℤ}
-use lib.ListN.{length, take, drop, length-append}
+use lib.ListN.{length, length-append}
 use borrow.Author.Needs.{needs}
-use Rattle.values.specs.Curves.{Point, curveValue, valuesFrom, spanValues, valuesOn, curveValues}
+use Rattle.values.specs.Curves.{curveValue, valuesFrom, spanValues, valuesOn, curveValues}
 use Rattle.extended.specs.Layout.{pointSize}
 use Rattle.extended.specs.Points.{pointAt, pointsFrom}
 use Rattle.extended.specs.Inner.{wordRange}
@@ -75,6 +75,16 @@ module _ (f : List ℕ) (step : ℕ) where
   unfolding curveValues valuesOn
   curve-more at left p = rw (points-more f at left (omega arith), points-more f (at + pointSize) (left - 1) (omega arith))
 
+  -- so many of its values are the first span's
+  pub curve-count : (at left : ℕ) → 1 < left
+      → length (curveValues step (pointsFrom f at left)) ≡ pointAt f at .span / step + length (curveValues step (pointsFrom f (at + pointSize) (left - 1)))
+  curve-count at left p =
+      let v = pointAt f at .value in
+      let w = pointAt f (at + pointSize) .value in
+      let d = pointAt f at .span in
+      let l = length-append (spanValues v w step d) (curveValues step (pointsFrom f (at + pointSize) (left - 1))) in
+      rw (curve-more at left p, l, length-span v w step d)
+
 -- ---- the count
 
 -- What was counted, and what the points left come to.
@@ -96,10 +106,7 @@ module _ (f : List ℕ) (from points step : ℕ) (asked : Drawn (length f) from 
         let m = known .most in
         let k = known .few in
         let c : n + length (curveValues step (pointsFrom f at left)) ≡ 1 + length (curveValues step (pointsFrom f from points)) = known .count in
-        let v = pointAt f at .value in
-        let w = pointAt f (at + pointSize) .value in
-        let d : length (curveValues step (pointsFrom f at left)) ≡ s + length (curveValues step (pointsFrom f (at + pointSize) (left - 1))) =
-        rw (curve-more f step at left p, length-append (spanValues v w step (pointAt f at .span)) (curveValues step (pointsFrom f (at + pointSize) (left - 1))), length-span v w step (pointAt f at .span), e) in
+        let d = curve-count f step at left p in
         record { some = omega arith; few = omega arith; place = omega arith; count = omega arith; most = omega arith }
 
     pub counting-end : left ≤ 1 → n ≡ length (curveValues step (pointsFrom f from points))

@@ -1,13 +1,10 @@
 -- A span's values one by one, a curve's span by span, and the values of all curves item by item.
 -- Assumes nothing.
-use mathlib.Core.Path.{_≡_, refl, sym, ap, _∙_}
-use mathlib.Core.List.{List, [], _∷_, _++_, append-nil}
+use mathlib.Core.Path.{_≡_, refl}
+use mathlib.Core.List.{List, [], _∷_, _++_}
 use Prim.Native.Nat.{ℕ, _+_, _-_, _*_, _/_, _<_, _≤_}
 use native.Mathlib.Omega.{arith}
-use lib.IntN.{ℤ}
-use lib.ListN.{length, take, set, length-append}
-use mir.Syntax.{w64}
-use mir.Val.{Fits}
+use lib.ListN.{length, set}
 use borrow.Author.Needs.{needs}
 use Rattle.contents.specs.Limits.{mostActions}
 use Rattle.values.specs.Integers.{wholeRange}
@@ -16,14 +13,14 @@ use Rattle.values.specs.Inner.{valueOf, Within}
 use Rattle.extended.specs.declared.Extent.{Extent}
 use Rattle.extended.specs.declared.Folded.{Folded}
 use Rattle.extended.specs.Layout.{foldedSize, pointSize, itemsStart, pointsStart}
-use Rattle.extended.specs.Folds.{foldedAt, foldedFrom}
+use Rattle.extended.specs.Folds.{foldedAt}
 use Rattle.extended.specs.Points.{pointAt, pointsFrom, valuesOf, allValues}
-use Rattle.extended.specs.Inner.{wordRange, SmallFolded, Foldable}
-use Rattle.tables.specs.Tables.{none-left, raisedIn, valuesIn, Valued}
-use Rattle.tables.specs.Inner.{pointsOf, itemsLeft, pointsLeft, ItemIn, Reached, Drawn, Spanned, Addable, Added}
-use Rattle.tables.proofs.CurveCounts.{length-span, values-next, place-before, curve-one, curve-more}
+use Rattle.extended.specs.Inner.{SmallFolded, Foldable}
+use Rattle.tables.specs.Tables.{no-word, valuesIn, Valued}
+use Rattle.tables.specs.Inner.{pointsOf, itemsLeft, pointsLeft, Reached, Drawn, Spanned, Addable, raisedIn, Added}
+use Rattle.tables.proofs.CurveCounts.{values-next, place-before, curve-one, curve-more, curve-count}
 use Rattle.tables.proofs.ValueLaws.{value-put, added-none, added-join, Adding, adding-start, adding-next, adding-end, adding-room}
-use Rattle.tables.proofs.WalkSteps.{Walk, walk-start, walk-none, walk-item, walk-reached, walk-next, walk-fits, walk-values, reached-point, reached-drawn, reached-values, values-plain, items-all, points-all}
+use Rattle.tables.proofs.WalkSteps.{Walk, walk-start, walk-none, walk-item, walk-reached, walk-next, walk-fits, walk-values, walk-count, reached-point, reached-drawn, reached-values, values-plain, items-all, points-all}
 
 -- ---- a span
 
@@ -113,8 +110,8 @@ module _ (f o : List ℕ) (from points step n : ℕ) (drawn : Drawn (length f) f
 
         pub drawing-room : Addable m r (span / step)
         drawing-room =
-            let a : length (curveValues step (pointsFrom f at left)) ≡ span / step + length (curveValues step (pointsFrom f (at + pointSize) (left - 1))) =
-            ap length owed ∙ length-append (spanValues (valueOf v) (valueOf w) step span) (curveValues step (pointsFrom f (at + pointSize) (left - 1))) ∙ rw (length-span (valueOf v) (valueOf w) step span) in
+            let a = curve-count f step at left l in
+            let b : span / step ≡ pointAt f at .span / step = rw es in
             adding-room o m _ _ n r (span / step) (known .adding) asked (omega arith)
 
         pub drawing-next : (m′ : List ℕ) (r′ : ℕ) → Added m r (spanValues (valueOf v) (valueOf w) step span) m′ r′ → Drawing f o from points step n (at + pointSize) (left - 1) m′ r′
@@ -161,7 +158,7 @@ pub record Filling (f : List ℕ) (c : Extent) (o : List ℕ) (m : List ℕ) (k 
 
 module _ (f : List ℕ) (c : Extent) (o : List ℕ) (few : length (valuesIn f c) ≤ mostActions) (room : mostActions ≤ length o) where
   all-room : Addable o 0 (length (valuesIn f c))
-  all-room = record { below = none-left; room = omega arith }
+  all-room = record { below = no-word; room = omega arith }
 
   pub filling-start : Foldable f c → Filling f c o o 0 0 0
   filling-start a = record { walk = walk-start f c a; adding = rw (items-all f c, points-all f c) (adding-start o 0 (valuesIn f c) all-room) }
@@ -183,21 +180,10 @@ module _ (f : List ℕ) (c : Extent) (o : List ℕ) (few : length (valuesIn f c)
         record { count = omega arith; values = a .values; below = a .below; few = omega arith }
 
     module _ (l : k < c .items) where
-      pub filling-item : ItemIn (length f) c k
-      filling-item = walk-item f c k used (known .walk) l
-
       module _ (i : Folded) (e : i ≡ foldedAt f (itemsStart c + foldedSize * k)) (small : SmallFolded i) where
-        pub filling-reached : Reached f c used i
-        filling-reached = walk-reached f c k used (known .walk) l i e small
-
-        pub filling-points : (u : ℕ) → u ≡ pointsOf i → Fits w64 (used + u)
-        filling-points u p = walk-fits f c k used (known .walk) l i e small u p
-
         pub filling-room : Addable m n (length (valuesOf i (pointsLeft f c used)))
         filling-room =
-            let v = walk-values f c k used (known .walk) l i e small (pointsOf i) refl in
-            let a : length (allValues (itemsLeft f c k) (pointsLeft f c used)) ≡ length (valuesOf i (pointsLeft f c used)) + length (allValues (itemsLeft f c (k + 1)) (pointsLeft f c (used + pointsOf i))) =
-            ap length v ∙ length-append (valuesOf i (pointsLeft f c used)) (allValues (itemsLeft f c (k + 1)) (pointsLeft f c (used + pointsOf i))) in
+            let a = walk-count f c k used (known .walk) l i e small (pointsOf i) refl in
             adding-room o m _ _ 0 n _ (known .adding) all-room (omega arith)
 
         pub filling-next : (m′ : List ℕ) (r u : ℕ) → Added m n (valuesOf i (pointsLeft f c used)) m′ r → u ≡ pointsOf i → Filling f c o m′ (k + 1) (used + u) r
@@ -207,4 +193,4 @@ module _ (f : List ℕ) (c : Extent) (o : List ℕ) (few : length (valuesIn f c)
               adding = adding-next o m m′ _ _ _ _ 0 n r (known .adding) (walk-values f c k used (known .walk) l i e small u p) a;
             }
 
-pub ruleset filling = (filling-start, filling-size, filling-end, filling-item, filling-reached, filling-points, filling-room, filling-next, needs)
+pub ruleset filling = (filling-start, filling-size, filling-end, filling-room, filling-next, walk-item, walk-reached, walk-fits, needs)

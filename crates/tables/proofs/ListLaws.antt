@@ -1,12 +1,11 @@
 -- Items and points as lists of what stands in the bytes: one more, so many, and all but so many.
 -- Assumes nothing.
-use mathlib.Core.Path.{_≡_, refl, sym, ap, _∙_}
+use mathlib.Core.Path.{_≡_, refl, ap, _∙_}
 use mathlib.Core.List.{List, [], _∷_}
 use Prim.Native.Nat.{ℕ, zero, suc, _+_, _-_, _*_, _<_, _≤_}
 use native.Mathlib.Omega.{arith}
 use lib.ListN.{length, take, drop}
 use Rattle.values.specs.Curves.{Point}
-use Rattle.extended.specs.declared.Folded.{Folded}
 use Rattle.extended.specs.Layout.{foldedSize, pointSize}
 use Rattle.extended.specs.Folds.{foldedAt, foldedFrom}
 use Rattle.extended.specs.Points.{pointAt, pointsFrom}

@@ -2,37 +2,35 @@
 -- Assumes nothing.
 use mathlib.Core.Path.{_≡_, refl, sym, ap, _∙_}
 use mathlib.Core.List.{List, [], _∷_, _++_, append-nil}
-use Prim.Native.Nat.{ℕ, _+_, _-_, _*_, _<_, _≤_}
+use Prim.Native.Nat.{ℕ, _+_, _*_, _<_, _≤_}
 use native.Mathlib.Omega.{arith}
-use lib.ListN.{length, take, drop, set, length-append, take-append-drop}
+use lib.ListN.{length, take, drop, set, take-append-drop}
 use lib.Seq.{take-add, drop-drop, take-append-seam, drop-append-seam}
 use mir.Syntax.{w64}
 use mir.Val.{Fits}
 use borrow.Author.Needs.{needs}
-use Rattle.base.specs.Tests.{pick}
 use Rattle.ascii.specs.Laying.{Laid}
 use Rattle.ascii.proofs.LayLaws.{laid-join, laid-byte, laid-nothing}
 use Rattle.contents.specs.Limits.{mostItems, mostActions}
-use Rattle.values.specs.Curves.{Point}
 use Rattle.extended.specs.declared.Extent.{Extent}
 use Rattle.extended.specs.declared.Folded.{Folded}
-use Rattle.extended.specs.Layout.{foldedSize, pointSize, itemsStart, pointsStart}
-use Rattle.extended.specs.Folds.{isCurve, foldedAt, foldedFrom}
-use Rattle.extended.specs.Points.{pointsFrom, pointsAfter, valuesOf, allValues}
+use Rattle.extended.specs.Layout.{foldedSize, itemsStart}
+use Rattle.extended.specs.Folds.{foldedAt}
+use Rattle.extended.specs.Points.{pointsAfter, valuesOf, allValues}
 use Rattle.extended.specs.Inner.{wordRange, SmallFolded, Foldable}
 use Rattle.shapes.specs.Limits.{rowWords}
-use Rattle.tables.specs.declared.Table.{Table}
 use Rattle.tables.specs.declared.Table.the-variants.{Filled, Over}
 use Rattle.tables.specs.Tables.{timesOf, rowOf, tableOf, valuesIn, tableIn, Tabled}
-use Rattle.tables.specs.Inner.{mostCount, pointsOf, timesAs, itemsLeft, pointsLeft, ItemIn, Reached, RowIn}
-use Rattle.tables.proofs.WalkSteps.{Walk, walk-start, walk-none, walk-item, walk-reached, walk-next, walk-fits, walk-more, walk-values, left-after, items-all, points-all}
+use Rattle.tables.specs.Inner.{mostCount, pointsOf, timesAs, itemsLeft, pointsLeft, RowIn}
+use Rattle.tables.proofs.WalkSteps.{Walk, walk-start, walk-none, walk-item, walk-reached, walk-next, walk-fits, walk-more, walk-count, left-after, items-all, points-all}
 
 -- ---- one row
 
 pub word-laid : (o : List ℕ) (a n w : ℕ) → w ≡ n → a + 1 ≤ length o → Laid o a (n ∷ []) (set o a w) (a + 1)
 word-laid o a n w e p = rw e (laid-byte o a n p)
 
-pub row-laid : (i : Folded) (times first : ℕ) (o m₁ m₂ m₃ m₄ : List ℕ) (a b₁ b₂ b₃ b₄ : ℕ) → Laid o a (i .item .kind ∷ []) m₁ b₁ → Laid m₁ b₁ (i .item .last ∷ []) m₂ b₂ → Laid m₂ b₂ (times ∷ []) m₃ b₃ → Laid m₃ b₃ (first ∷ []) m₄ b₄
+pub row-laid : (i : Folded) (times first : ℕ) (o m₁ m₂ m₃ m₄ : List ℕ) (a b₁ b₂ b₃ b₄ : ℕ) → Laid o a (i .item .kind ∷ []) m₁ b₁
+    → Laid m₁ b₁ (i .item .last ∷ []) m₂ b₂ → Laid m₂ b₂ (times ∷ []) m₃ b₃ → Laid m₃ b₃ (first ∷ []) m₄ b₄
     → Laid o a (rowOf i times first) m₄ b₄
 unfolding rowOf
 row-laid i times first o m₁ m₂ m₃ m₄ a b₁ b₂ b₃ b₄ p q r s =
@@ -81,9 +79,19 @@ module _ (f : List ℕ) (c : Extent) (o m : List ℕ) (k used first : ℕ) (know
   pub tabling-size : length m ≡ length o
   tabling-size = known .laid .size
 
-  none-left : c .items ≤ k → length (allValues (itemsLeft f c k) (pointsLeft f c used)) ≡ 0
+  pub tabling-fits : (n : ℕ) → n ≤ mostCount → Fits w64 (first + n)
+  tabling-fits n p = let q = known .few in record { fits = omega arith }
+
+  pub tabling-room : (i : Folded) (times : ℕ) → k < c .items → c .items ≤ mostItems → rowWords * mostItems ≤ length o → SmallFolded i → times < wordRange
+      → RowIn (length m) (rowWords * k) i times first
+  tabling-room i times l p q small t =
+      let z = known .laid .size in
+      let w = known .few in
+      record { room = omega arith; small = small; short = t; before = omega arith }
+
+  no-values-left : c .items ≤ k → length (allValues (itemsLeft f c k) (pointsLeft f c used)) ≡ 0
   unfolding allValues
-  none-left p = rw (walk-none f c k used (known .walk) p)
+  no-values-left p = rw (walk-none f c k used (known .walk) p)
 
   nothing-owed : c .items ≤ k → tableOf (itemsLeft f c k) (pointsLeft f c used) first ≡ []
   unfolding tableOf
@@ -92,7 +100,7 @@ module _ (f : List ℕ) (c : Extent) (o m : List ℕ) (k used first : ℕ) (know
   pub tabling-end : c .items ≤ k → Tabled f c o m (Filled first)
   tabling-end p =
       let s : first + length (allValues (itemsLeft f c k) (pointsLeft f c used)) ≡ length (valuesIn f c) = known .count in
-      let z = none-left p in
+      let z = no-values-left p in
       let l = known .walk .items in
       let e : first ≡ length (valuesIn f c) = omega arith in
       let q : rowWords * k ≡ rowWords * c .items = omega arith in
@@ -109,9 +117,7 @@ module _ (f : List ℕ) (c : Extent) (o m : List ℕ) (k used first : ℕ) (know
       pub tabling-over : mostActions < first + n → Tabled f c o m Over
       tabling-over q =
           let s : first + length (allValues (itemsLeft f c k) (pointsLeft f c used)) ≡ length (valuesIn f c) = known .count in
-          let v = walk-values f c k used (known .walk) l i e small (pointsOf i) refl in
-          let a : length (allValues (itemsLeft f c k) (pointsLeft f c used)) ≡ length (valuesOf i (pointsLeft f c used)) + length (allValues (itemsLeft f c (k + 1)) (pointsLeft f c (used + pointsOf i))) =
-          ap length v ∙ length-append (valuesOf i (pointsLeft f c used)) (allValues (itemsLeft f c (k + 1)) (pointsLeft f c (used + pointsOf i))) in
+          let a = walk-count f c k used (known .walk) l i e small (pointsOf i) refl in
           let b : mostActions < length (valuesIn f c) = omega arith in
           record {
             filled = λ (h : length (valuesIn f c) ≤ mostActions). absurd (omega arith);
@@ -129,21 +135,23 @@ module _ (f : List ℕ) (c : Extent) (o m : List ℕ) (k used first : ℕ) (know
         unfolding tableOf
         owed-row = rw (times-same, p)
 
+        owed-more : (u : ℕ) → u ≡ pointsOf i
+            → tableOf (itemsLeft f c k) (pointsLeft f c used) first ≡ rowOf i times first ++ tableOf (itemsLeft f c (k + 1)) (pointsLeft f c (used + u)) (first + n)
+        owed-more u w =
+            let x = walk-reached f c k used (known .walk) l i e small in
+            rw (walk-more f c k used (known .walk) l i e, ← (left-after f c used i x u w)) owed-row
+
         row-end : (m′ : List ℕ) (r : ℕ) → Laid m (rowWords * k) (rowOf i times first) m′ r → r ≡ rowWords * (k + 1)
         unfolding rowOf
         row-end m′ r laid = let s = laid .stop in omega arith
 
         pub tabling-next : (m′ : List ℕ) (r u : ℕ) → first + n ≤ mostActions → Laid m (rowWords * k) (rowOf i times first) m′ r → u ≡ pointsOf i → Tabling f c o m′ (k + 1) (used + u) (first + n)
         tabling-next m′ r u q laid w =
-            let x = walk-reached f c k used (known .walk) l i e small in
             let s : first + length (allValues (itemsLeft f c k) (pointsLeft f c used)) ≡ length (valuesIn f c) = known .count in
-            let v = walk-values f c k used (known .walk) l i e small u w in
-            let a : length (allValues (itemsLeft f c k) (pointsLeft f c used)) ≡ length (valuesOf i (pointsLeft f c used)) + length (allValues (itemsLeft f c (k + 1)) (pointsLeft f c (used + u))) =
-            ap length v ∙ length-append (valuesOf i (pointsLeft f c used)) (allValues (itemsLeft f c (k + 1)) (pointsLeft f c (used + u))) in
-            let b : tableOf (itemsLeft f c k) (pointsLeft f c used) first ≡ rowOf i times first ++ tableOf (itemsLeft f c (k + 1)) (pointsLeft f c (used + u)) (first + n) =
-            rw (walk-more f c k used (known .walk) l i e, ← (left-after f c used i x u w)) owed-row in
-            let g = next-laid o (tableIn f c) _ _ m m′ (rowWords * k) r (known .laid) (known .owed ∙ b) laid in
-            let d = next-owed (tableIn f c) _ _ m m′ (rowWords * k) r (known .owed ∙ b) laid in
+            let a = walk-count f c k used (known .walk) l i e small u w in
+            let b = known .owed ∙ owed-more u w in
+            let g = next-laid o (tableIn f c) _ _ m m′ (rowWords * k) r (known .laid) b laid in
+            let d = next-owed (tableIn f c) _ _ m m′ (rowWords * k) r b laid in
             let h : r ≡ rowWords * (k + 1) = row-end m′ r laid in
             record {
               walk = walk-next f c k used (known .walk) l i e small u w;
@@ -153,25 +161,4 @@ module _ (f : List ℕ) (c : Extent) (o m : List ℕ) (k used first : ℕ) (know
               owed = rw h at d;
             }
 
--- ---- what the code asks on its way
-
-module _ (f : List ℕ) (c : Extent) (o m : List ℕ) (k used first : ℕ) (known : Tabling f c o m k used first) (l : k < c .items) where
-  pub tabling-item : ItemIn (length f) c k
-  tabling-item = walk-item f c k used (known .walk) l
-
-  pub tabling-fits : (n : ℕ) → n ≤ mostCount → Fits w64 (first + n)
-  tabling-fits n p = let q = known .few in record { fits = omega arith }
-
-  pub tabling-used : (i : Folded) → i ≡ foldedAt f (itemsStart c + foldedSize * k) → SmallFolded i → Reached f c used i
-  tabling-used i e small = walk-reached f c k used (known .walk) l i e small
-
-  pub tabling-points : (i : Folded) → i ≡ foldedAt f (itemsStart c + foldedSize * k) → SmallFolded i → (u : ℕ) → u ≡ pointsOf i → Fits w64 (used + u)
-  tabling-points i e small u p = walk-fits f c k used (known .walk) l i e small u p
-
-  pub tabling-room : (i : Folded) (times : ℕ) → c .items ≤ mostItems → rowWords * mostItems ≤ length o → SmallFolded i → times < wordRange → RowIn (length m) (rowWords * k) i times first
-  tabling-room i times p q small t =
-      let z = known .laid .size in
-      let w = known .few in
-      record { room = omega arith; small = small; short = t; before = omega arith }
-
-pub ruleset tabling = (tabling-start, tabling-size, tabling-end, tabling-over, tabling-next, tabling-item, tabling-fits, tabling-used, tabling-points, tabling-room, needs)
+pub ruleset tabling = (tabling-start, tabling-size, tabling-end, tabling-over, tabling-next, tabling-fits, tabling-room, walk-item, walk-reached, walk-fits, needs)

@@ -1,27 +1,27 @@
 -- What a caller reads back of a table: the shapes, each row's times and the values before it, and where an item's values stand among all.
 -- Assumes nothing.
 use mathlib.Core.Path.{_≡_, refl, sym, ap, _∙_}
-use mathlib.Core.List.{List, [], _∷_, _++_, append-assoc, append-nil}
-use Prim.Native.Nat.{ℕ, zero, suc, _+_, _-_, _*_, _<_, _≤_}
+use mathlib.Core.List.{List, [], _∷_, _++_, append-assoc}
+use Prim.Native.Nat.{ℕ, zero, suc, _+_, _*_, _<_, _≤_}
 use native.Mathlib.Omega.{arith}
 use lib.Dec.{leb}
 use mathlib.Core.Bool.{Bool, true, false}
 use lib.IntN.{ℤ}
-use lib.ListN.{length, take, drop, getD, length-append}
-use lib.Seq.{getD-take, getD-drop, drop-append-seam, take-append-seam}
-use borrow.Author.Tests.{leb-true, leb-false}
+use lib.ListN.{length, take, drop, getD, length-append, List·getD-append}
+use lib.Seq.{getD-take, getD-drop, getD-append-add, drop-append-seam, take-append-seam}
+use borrow.Author.Tests.{leb-true, leb-false, eq-eqb, ne-eqb}
+use Rattle.base.specs.Tests.{pick}
 use Rattle.ascii.specs.Laying.{Laid}
 use Rattle.contents.specs.Limits.{mostActions}
 use Rattle.values.specs.Curves.{Point}
 use Rattle.extended.specs.declared.Extent.{Extent}
 use Rattle.extended.specs.declared.Folded.{Folded}
 use Rattle.extended.specs.Layout.{foldedSize, itemsStart}
-use Rattle.extended.specs.Folds.{foldedAt, foldedFrom}
+use Rattle.extended.specs.Folds.{foldedAt}
 use Rattle.extended.specs.Points.{pointsAfter, valuesOf, allValues}
 use Rattle.shapes.specs.declared.Shape.{Shape}
 use Rattle.shapes.specs.Limits.{rowWords}
 use Rattle.shapes.specs.Shapes.{shapeAt, shapesFrom}
-use Rattle.tables.specs.declared.Table.{Table}
 use Rattle.tables.specs.declared.Table.the-variants.{Filled, Over}
 use Rattle.tables.specs.Tables.{timesOf, rowOf, tableOf, shapeOf, shapesOf, pointsPast, itemsIn, pointsIn, valuesIn, tableIn, Tabled}
 use Rattle.tables.proofs.ListLaws.{length-items, items-at}
@@ -163,6 +163,21 @@ module _ (k : ℕ) (is : List Folded) (ps : List Point) (p : k < length is) (i :
       let b = length-append (valuesOf i points) (allValues rest (pointsAfter i points)) in
       let d : length (allValues is ps) ≡ length (before ++ (valuesOf i points ++ allValues rest (pointsAfter i points))) = ap length values-around in
       omega arith
+
+  -- its j-th value stands j places behind those before its own
+  pub value-among : (j : ℕ) (d : ℤ) → j < length (valuesOf i points) → getD (allValues is ps) (length before + j) d ≡ getD (valuesOf i points) j d
+  value-among j d l =
+      let a = getD-append-add before (valuesOf i points ++ allValues rest (pointsAfter i points)) j d in
+      rw (values-around, a, List·getD-append (valuesOf i points) (allValues rest (pointsAfter i points)) d j l)
+
+-- a curve's times are how many values it has, another item's its own
+pub curve-times : (i : Folded) (ps : List Point) → i .item .kind ≡ 3 → timesOf i ps ≡ length (valuesOf i ps)
+unfolding timesOf pick
+curve-times i ps e = rw (eq-eqb _ 3 e)
+
+pub other-times : (i : Folded) (ps : List Point) → (i .item .kind ≡ 3 → ⊥) → timesOf i ps ≡ i .times
+unfolding timesOf pick
+other-times i ps n = rw (ne-eqb _ 3 n)
 
 -- ---- of a file, at the front of longer words
 

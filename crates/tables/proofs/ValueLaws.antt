@@ -2,28 +2,28 @@
 -- Assumes nothing.
 use mathlib.Core.Path.{_≡_, refl, sym, ap, _∙_}
 use mathlib.Core.List.{List, [], _∷_, _++_, map, map-append, append-assoc, append-nil}
-use Prim.Native.Nat.{ℕ, zero, suc, _+_, _-_, _*_, _<_, _≤_}
+use Prim.Native.Nat.{ℕ, zero, suc, _+_, _<_, _≤_}
 use native.Mathlib.Numerals.{add-one}
 use native.Mathlib.Omega.{arith}
 use lib.IntN.{ℤ}
-use lib.ListN.{length, take, getD, set, length-append, length-map, length-set, List·getD-map}
+use lib.ListN.{length, take, getD, set, length-append, length-set, List·getD-map}
 use lib.Seq.{length-take-le, take-suc-set, getD-take}
 use Rattle.values.specs.Integers.{wholeRange}
 use Rattle.values.specs.Inner.{valueOf}
 use Rattle.extended.specs.declared.Extent.{Extent}
-use Rattle.tables.specs.Tables.{Below, none-left, one-below, raisedIn, valuesIn, Valued}
-use Rattle.tables.specs.Inner.{Addable, Added}
+use Rattle.tables.specs.Tables.{Below, no-word, word-below, valuesIn, Valued}
+use Rattle.tables.specs.Inner.{Addable, raisedIn, Added}
 
 -- ---- below
 
 below-append : (n : ℕ) (xs ys : List ℕ) → Below n xs → Below n ys → Below n (xs ++ ys)
-below-append n [] ys none-left q = q
-below-append n (x ∷ xs) ys (one-below l p) q = one-below l (below-append n xs ys p q)
+below-append n [] ys no-word q = q
+below-append n (x ∷ xs) ys (word-below l p) q = word-below l (below-append n xs ys p q)
 
 below-getD : (n : ℕ) (xs : List ℕ) (j : ℕ) → Below n xs → j < length xs → getD xs j 0 < n
 below-getD n [] j p l = absurd (omega arith)
-below-getD n (x ∷ xs) zero (one-below q p) l = q
-below-getD n (x ∷ xs) (suc j) (one-below q p) l = below-getD n xs j p (omega arith)
+below-getD n (x ∷ xs) zero (word-below q p) l = q
+below-getD n (x ∷ xs) (suc j) (word-below q p) l = below-getD n xs j p (omega arith)
 
 -- each of the first r words is below
 pub below-at : (n : ℕ) (m : List ℕ) (r j : ℕ) → Below n (take r m) → r ≤ length m → j < r → getD m j 0 < n
@@ -33,8 +33,7 @@ below-at n m r j p l q =
 
 -- ---- the values by their place
 
-pub value-by-place : (m : List ℕ) (vs : List ℤ) (r j : ℕ) → raisedIn m r ≡ vs → j < r → valueOf (getD m j 0) ≡ getD vs j (valueOf 0)
-unfolding raisedIn
+pub value-by-place : (m : List ℕ) (vs : List ℤ) (r j : ℕ) → map valueOf (take r m) ≡ vs → j < r → valueOf (getD m j 0) ≡ getD vs j (valueOf 0)
 value-by-place m vs r j e q = rw (← e, List·getD-map valueOf (take r m) j 0, getD-take r m j 0 q)
 
 module _ (f : List ℕ) (c : Extent) (m : List ℕ) (r : ℕ) (valued : Valued f c m r) (l : r ≤ length m) (j : ℕ) (q : j < r) where
@@ -54,7 +53,7 @@ value-put m n v l asked =
     let t : take (n + 1) (set m n v) ≡ take n m ++ (v ∷ []) = rw add-one (take-suc-set m n v i) in
     record {
       values = rw (t, map-append valueOf (take n m) (v ∷ []));
-      below = rw t (below-append wholeRange (take n m) (v ∷ []) (asked .below) (one-below l none-left));
+      below = rw t (below-append wholeRange (take n m) (v ∷ []) (asked .below) (word-below l no-word));
       stop = refl;
       within = rw (length-set m n v) r;
       size = length-set m n v;

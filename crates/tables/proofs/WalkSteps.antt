@@ -6,13 +6,12 @@ use mathlib.Core.List.{List, [], _∷_, _++_}
 use Prim.Native.Nat.{ℕ, _+_, _-_, _*_, _<_, _≤_}
 use native.Mathlib.Omega.{arith}
 use lib.Dec.{eqb}
-use lib.IntN.{ℤ}
-use lib.ListN.{length, take, drop}
+use lib.ListN.{length, take, drop, length-append}
 use mir.Syntax.{w64}
 use mir.Val.{Fits}
 use borrow.Author.Tests.{eq-eqb, ne-eqb, eqb-true, eqb-false}
 use borrow.Author.Needs.{needs}
-use Rattle.base.specs.Tests.{pick, every}
+use Rattle.base.specs.Tests.{pick}
 use Rattle.base.proofs.TestLaws.{every-head, every-rest, between-low, between-high}
 use Rattle.contents.specs.Bytes.{u32At}
 use Rattle.values.specs.Integers.{fromBits}
@@ -21,11 +20,11 @@ use Rattle.values.specs.Inner.{valueOf}
 use Rattle.extended.specs.declared.Extent.{Extent}
 use Rattle.extended.specs.declared.Folded.{Folded}
 use Rattle.extended.specs.Layout.{foldedSize, pointSize, itemsStart, pointsStart}
-use Rattle.extended.specs.Folds.{isCurve, foldedAt, foldedFrom}
+use Rattle.extended.specs.Folds.{foldedAt, foldedFrom}
 use Rattle.extended.specs.Points.{pointAt, pointsFrom, pointsAfter, valuesOf, allValues}
 use Rattle.extended.specs.Right.{curveRight, ownRight}
-use Rattle.extended.specs.Inner.{wordRange, SmallExtent, SmallFolded, Folds, fold, Foldable}
-use Rattle.tables.specs.Inner.{mostCount, pointsOf, timesAs, itemsLeft, pointsLeft, ItemIn, PointIn, Reached, Drawn}
+use Rattle.extended.specs.Inner.{SmallFolded, Folds, fold, Foldable}
+use Rattle.tables.specs.Inner.{pointsOf, timesAs, itemsLeft, pointsLeft, ItemIn, PointIn, Reached, Drawn}
 use Rattle.tables.proofs.ListLaws.{take-points, drop-points, length-points, items-more, items-none}
 
 -- ---- what is read
@@ -260,4 +259,5 @@ module _ (f : List ℕ) (c : Extent) (k used : ℕ) (walk : Walk f c k used) whe
           pub walk-values : allValues (itemsLeft f c k) (pointsLeft f c used) ≡ valuesOf i (pointsLeft f c used) ++ allValues (itemsLeft f c (k + 1)) (pointsLeft f c (used + n))
           walk-values = rw (walk-more, ← (left-after f c used i walk-reached n p)) first-values
 
-pub ruleset walking = (walk-start, walk-item, walk-reached, walk-next, needs)
+          pub walk-count : length (allValues (itemsLeft f c k) (pointsLeft f c used)) ≡ length (valuesOf i (pointsLeft f c used)) + length (allValues (itemsLeft f c (k + 1)) (pointsLeft f c (used + n)))
+          walk-count = ap length walk-values ∙ length-append (valuesOf i (pointsLeft f c used)) (allValues (itemsLeft f c (k + 1)) (pointsLeft f c (used + n)))

@@ -2,12 +2,13 @@
 use Prim.Native.Nat.{ℕ, _+_, _-_, _*_, _<_, _≤_}
 use mathlib.Core.Path.{_≡_}
 use mathlib.Core.Bool.{true}
-use mathlib.Core.List.{List, _++_}
+use mathlib.Core.List.{List, _++_, map}
 use lib.IntN.{ℤ}
 use lib.ListN.{length, take}
 use Rattle.base.specs.Tests.{pick}
 use Rattle.values.specs.Integers.{wholeRange}
 use Rattle.values.specs.Curves.{Point}
+use Rattle.values.specs.Inner.{valueOf}
 use Rattle.extended.specs.declared.Extent.{Extent}
 use Rattle.extended.specs.declared.Folded.{Folded}
 use Rattle.extended.specs.Layout.{foldedSize, pointSize, itemsStart, pointsStart}
@@ -16,7 +17,7 @@ use Rattle.extended.specs.Points.{pointsFrom}
 use Rattle.extended.specs.Right.{ownRight}
 use Rattle.extended.specs.Inner.{wordRange, SmallExtent, SmallFolded, Foldable}
 use Rattle.shapes.specs.Limits.{rowWords}
-use Rattle.tables.specs.Tables.{Below, raisedIn}
+use Rattle.tables.specs.Tables.{Below}
 
 -- ---- items and points by number
 
@@ -84,6 +85,10 @@ pub record Spanned (v w step span : ℕ) : Type 0 where
 pub record Addable (m : List ℕ) (n count : ℕ) : Type 0 where
   pub below : Below wholeRange (take n m)
   pub room : n + count ≤ length m
+
+-- The values that the first n words are, raised.
+unfoldable pub raisedIn : List ℕ → (n : ℕ) → List ℤ
+raisedIn m n = map valueOf (take n m)
 
 -- Behind the first n words stand the values up to r.
 pub record Added (old : List ℕ) (n : ℕ) (vs : List ℤ) (new : List ℕ) (r : ℕ) : Type 0 where

@@ -72,16 +72,12 @@ pub record Tabled (f : List ℕ) (c : Extent) (entry exit : List ℕ) (r : Table
 
 -- All of these are below n.
 pub data Below (n : ℕ) : List ℕ → Type 0 where
-  none-left : Below n []
-  one-below : {x : ℕ} {xs : List ℕ} → x < n → Below n xs → Below n (x ∷ xs)
+  no-word : Below n []
+  word-below : {x : ℕ} {xs : List ℕ} → x < n → Below n xs → Below n (x ∷ xs)
 
--- The values that the first n words are, raised.
-unfoldable pub raisedIn : List ℕ → (n : ℕ) → List ℤ
-raisedIn m n = map valueOf (take n m)
-
--- The first r words are the values of all curves.
+-- The first r words are the values of all curves, raised.
 pub record Valued (f : List ℕ) (c : Extent) (m : List ℕ) (r : ℕ) : Type 0 where
   pub count : r ≡ length (valuesIn f c)
-  pub values : raisedIn m r ≡ valuesIn f c
+  pub values : map valueOf (take r m) ≡ valuesIn f c
   pub below : Below wholeRange (take r m)
   pub few : r ≤ mostActions

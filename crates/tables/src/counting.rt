@@ -1,7 +1,7 @@
 // How many values a curve has, found without making them: a span of so many steps has so many, and the last point closes the curve. A curve has less than 2^16
 // points and a span less than 2^32 steps, so nothing wraps.
 ghost use mathlib.Core.Path.{_≡_};
-ghost use Prim.Native.Nat.{_+_, _*_, _/_, _≤_, _<_};
+ghost use Prim.Native.Nat.{_+_, _/_, _≤_, _<_};
 ghost use lib.ListN.{length};
 ghost use Rattle.values.specs.Curves.{curveValues};
 ghost use Rattle.contents.specs.Limits.{mostActions};
@@ -24,6 +24,7 @@ fn count_span(file: &[u8], at: usize, step: usize) -> usize
     span_at(file, at) / step
 }
 
+// The values of a curve with so many points from the byte `from` on.
 fn count_curve(file: &[u8], from: usize, points: usize, step: usize) -> usize
     requires { ⌜ Drawn (length (now file)) from points step ⌝ }
     ensures { λ r. ⌜ (r ≡ length (curveValues step (pointsFrom (now (file .entry)) from points))) × (r ≤ mostCount) ⌝ }

@@ -35,7 +35,7 @@ fn fill_span(values: &mut [u64], n: usize, v: u64, w: u64, step: u64, span: u64)
     n + count
 }
 
-// The value of a curve's last point.
+// The value of a curve's last point, which closes it.
 fn fill_last(values: &mut [u64], n: usize, v: u64) -> usize
     requires { ⌜ (v < wholeRange) × Addable (now values) n 1 ⌝ }
     ensures { λ r. ⌜ Added (now (values .entry)) n (valueOf v ∷ []) (now (values .exit)) r ⌝ }
@@ -44,6 +44,7 @@ fn fill_last(values: &mut [u64], n: usize, v: u64) -> usize
     n + 1
 }
 
+// The values of a curve with so many points from the byte `from` on.
 fn fill_curve(
     file: &[u8],
     from: usize,
@@ -70,6 +71,7 @@ fn fill_curve(
     fill_last(values, next, v)
 }
 
+// The values of an item, of which only a curve has any.
 fn fill_item(file: &[u8], c: Extent, used: usize, i: Folded, values: &mut [u64], n: usize) -> usize
     requires { ⌜ Reached (now file) c used i × Addable (now values) n (length (valuesOf i (pointsLeft (now file) c used))) ⌝ }
     ensures { λ r. ⌜ Added (now (values .entry)) n (valuesOf i (pointsLeft (now (file .entry)) c used)) (now (values .exit)) r ⌝ }

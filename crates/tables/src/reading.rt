@@ -19,6 +19,7 @@ use extended::layout::items_start;
 use extended::layout::points_start;
 use values::raised;
 
+// "Kind 2 is a loop, 3 a curve"
 pub const CURVE: usize = 3;
 
 // The item number k.
@@ -55,6 +56,7 @@ pub fn value_at(file: &[u8], at: usize) -> u64
     raised(read32(file, at) as u64)
 }
 
+// The grains from a point to the next of its curve.
 pub fn span_at(file: &[u8], at: usize) -> usize
     requires { ⌜ at + pointSize ≤ length (now file) ⌝ }
     ensures { λ r. ⌜ (r ≡ pointAt (now (file .entry)) at .span) × (r < wordRange) ⌝ }

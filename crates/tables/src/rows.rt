@@ -5,7 +5,7 @@ ghost use Prim.Native.Nat.{_+_, _*_, _≤_, _<_};
 ghost use lib.ListN.{length};
 ghost use Rattle.ascii.specs.Laying.{Laid};
 ghost use Rattle.contents.specs.Limits.{mostItems};
-ghost use Rattle.extended.specs.Inner.{wordRange, SmallFolded, Foldable};
+ghost use Rattle.extended.specs.Inner.{wordRange, Foldable};
 ghost use Rattle.shapes.specs.Limits.{rowWords};
 ghost use Rattle.tables.specs.Tables.{rowOf, Tabled};
 ghost use Rattle.tables.specs.Inner.{RowIn};
@@ -19,6 +19,7 @@ use extended::Extent;
 use extended::Folded;
 use shapes::ROW_WORDS;
 
+// No bits are lost.
 fn word(n: usize) -> u32
     requires { ⌜ n < wordRange ⌝ }
     ensures { λ r. ⌜ r ≡ n ⌝ }
@@ -26,6 +27,7 @@ fn word(n: usize) -> u32
     n as u32
 }
 
+// One word more.
 fn put_word(table: &mut [u32], at: usize, n: usize) -> usize
     requires { ⌜ (at + 1 ≤ length (now table)) × (n < wordRange) ⌝ }
     ensures { λ r. ⌜ Laid (now (table .entry)) at (n ∷ []) (now (table .exit)) r ⌝ }
@@ -34,6 +36,7 @@ fn put_word(table: &mut [u32], at: usize, n: usize) -> usize
     at + 1
 }
 
+// An item's row, with its times and how many values stand before its own.
 fn put_row(table: &mut [u32], at: usize, i: Folded, times: usize, first: usize) -> usize
     requires { ⌜ RowIn (length (now table)) at i times first ⌝ }
     ensures { λ r. ⌜ Laid (now (table .entry)) at (rowOf i times first) (now (table .exit)) r ⌝ }
