@@ -4,6 +4,9 @@ pub mod KindLaws
 pub mod LeastLaws
 pub mod RowLaws
 mod NumberedLaws
-mod PageLaws
+pub mod PageLaws
 mod PieceSteps
+mod TableSteps
+mod ItemSteps
+mod PassSteps
 mod BuildSteps

@@ -4,18 +4,16 @@ use mathlib.Core.Path.{_≡_, refl, sym, ap, _∙_}
 use mathlib.Core.List.{List, [], _∷_, _++_}
 use Prim.Native.Nat.{ℕ, suc, _+_, _-_, _*_, _<_, _≤_, min}
 use native.Mathlib.Omega.{arith}
-use lib.ListN.{length, getD, take, drop, length-take, length-drop}
+use lib.ListN.{length, getD, drop, length-take, length-drop}
 use borrow.Author.Needs.{needs}
 use Rattle.ascii.specs.Laying.{Laid}
 use Rattle.ascii.proofs.LayLaws.{laid-join, laid-nothing}
 use Rattle.page.specs.declared.Item.{Item}
-use Rattle.units.specs.declared.Grains.{Grains}
 use Rattle.contents.specs.Limits.{itemSize, mostItems, mostActions, deepest}
 use Rattle.contents.specs.Bytes.{part}
 use Rattle.contents.proofs.PartLaws.{part-more}
 use Rattle.score.specs.Encode.{itemBytes}
 use Rattle.score.proofs.EncodingBytes.{part-add, part-none}
-use Rattle.extended.specs.Inner.{wordRange}
 use Rattle.shapes.specs.declared.Shape.{Shape}
 use Rattle.shapes.specs.declared.Sizes.{Sizes}
 use Rattle.shapes.specs.declared.Sizes.the-variants.{Within, Over}

@@ -3,12 +3,11 @@
 use mathlib.Core.Path.{_≡_, refl, sym, ap, _∙_}
 use mathlib.Core.Bool.{Bool, true, false}
 use mathlib.Core.List.{List, [], _∷_, _++_}
-use Prim.Native.Nat.{ℕ, zero, suc, _+_, _*_}
+use Prim.Native.Nat.{ℕ, zero, suc, _+_, _*_, _<_}
 use native.Mathlib.Omega.{arith}
-use lib.Dec.{eqb}
 use lib.IntN.{ℤ}
-use lib.ListN.{length, take, drop, length-append}
-use lib.Seq.{take-take, take-at, drop-at}
+use lib.ListN.{length, getD, take, drop, length-append}
+use lib.Seq.{take-take, take-at, take-nil, drop-at, drop-drop, getD-take, getD-drop}
 use Rattle.base.specs.Tests.{pick}
 use Rattle.contents.specs.Bytes.{part}
 use Rattle.score.proofs.EncodingBytes.{part-add}
@@ -17,13 +16,15 @@ use Rattle.extended.specs.declared.Folded.{Folded}
 use Rattle.extended.specs.Layout.{foldedSize}
 use Rattle.extended.specs.Folds.{isCurve, foldedAt, foldedFrom}
 use Rattle.extended.specs.Points.{pointsAfter, valuesOf, allValues}
-use Rattle.extended.specs.Right.{ownRight}
 use Rattle.extended.specs.Inner.{Folds, fold}
 use Rattle.shapes.specs.declared.Shape.{Shape}
-use Rattle.shapes.specs.Shapes.{shapeAt, shapesFrom}
+use Rattle.shapes.specs.Limits.{rowWords}
+use Rattle.shapes.specs.Shapes.{shapeAt, shapesFrom, unfolded as treeUnfolded, items as treeItems, actions as treeActions, depth as treeDepth}
 use Rattle.unfolding.specs.Messages.{Messages, withValues, numbersOf}
-use Rattle.unfolding.specs.Extended.{Numbered, numberedBy, numbered}
-use Rattle.building.specs.Rows.{firstAt, numbersAt, numberedIn, shapeOf, shapesOf, timesOf, Rows, row}
+use Rattle.unfolding.specs.Extended.{numbered}
+use Rattle.unfolding.specs.Unfolded.{unfolded, items, actions, depth}
+use Rattle.building.specs.Rows.{firstAt, numbersAt, numberedIn, shapesOf, timesOf, Rows, no-rows, row, rowsOf}
+use Rattle.building.proofs.ShapeLaws.{items-same, actions-same, depth-same}
 use Rattle.building.proofs.KindLaws.{numbers-length, numbers-both, shape-same}
 
 -- ---- the numbers of the first values, and of those after them
@@ -64,6 +65,42 @@ module _ (table : List ℕ) (k before : ℕ) (i : Folded) (is : List Folded) (ps
     go : (c : Bool) → isCurve i ≡ c → pick (isCurve i) (part numbers before (timesOf i ps)) [] ≡ numbersOf m (valuesOf i ps)
     go true e = rw e (rw e at all)
     go false e = rw e
+
+-- ---- the rows as they are laid
+
+drop-take : (m n : ℕ) (l : List ℕ) → drop m (take (m + n) l) ≡ take n (drop m l)
+drop-take zero n l = let s : 0 + n ≡ n = omega arith in rw s
+drop-take (suc m) n [] = let s : suc m + n ≡ suc (m + n) = omega arith in rw s (sym (take-nil n))
+drop-take (suc m) n (x ∷ l) = let s : suc m + n ≡ suc (m + n) = omega arith in rw s (drop-take m n l)
+
+module _ (table : List ℕ) (at count : ℕ) (a b c d : ℕ) (rest : List ℕ) (laid : part table at (rowWords + count) ≡ a ∷ b ∷ c ∷ d ∷ rest) where
+  word : (j : ℕ) → j < rowWords → getD table (at + j) 0 ≡ getD (a ∷ b ∷ c ∷ d ∷ rest) j 0
+  unfolding part
+  word j p = sym (getD-take (rowWords + count) (drop at table) j 0 (omega arith) ∙ getD-drop at table j 0) ∙ ap (λ (l : List ℕ). getD l j 0) laid
+
+  words-after : part table (at + rowWords) count ≡ rest
+  unfolding part
+  words-after = sym (drop-take rowWords count (drop at table) ∙ ap (take count) (drop-drop rowWords at table)) ∙ ap (drop rowWords) laid
+
+rows-at : (table : List ℕ) (k before : ℕ) (is : List Folded) (ps : List Point) → part table (rowWords * k) (rowWords * length is) ≡ rowsOf before is ps → Rows table k before is ps
+unfolding rowsOf shapeAt firstAt
+rows-at table k before [] ps e = no-rows
+rows-at table k before (i ∷ is) ps e =
+    let s : rowWords * length (i ∷ is) ≡ rowWords + rowWords * length is = omega arith in
+    let t : rowWords * k + rowWords ≡ rowWords * (k + 1) = omega arith in
+    let z : rowWords * k + 0 ≡ rowWords * k = omega arith in
+    let laid = ap (part table (rowWords * k)) (sym s) ∙ e in
+    let x : getD table (rowWords * k) 0 ≡ i .item .kind = rw z at (word table (rowWords * k) (rowWords * length is) _ _ _ _ _ laid 0 (omega arith)) in
+    let y = word table (rowWords * k) (rowWords * length is) _ _ _ _ _ laid 1 (omega arith) in
+    let v = word table (rowWords * k) (rowWords * length is) _ _ _ _ _ laid 2 (omega arith) in
+    let w = word table (rowWords * k) (rowWords * length is) _ _ _ _ _ laid 3 (omega arith) in
+    let after = words-after table (rowWords * k) (rowWords * length is) _ _ _ _ _ laid in
+    let shape : shapeAt table k ≡ record { kind = i .item .kind; last = i .item .last; times = timesOf i ps } = rw (x, y, v) in
+    row shape w (rows-at table (k + 1) (before + length (valuesOf i ps)) is (pointsAfter i ps) (rw t at after))
+
+pub rows-laid : (table : List ℕ) (is : List Folded) (ps : List Point) → take (rowWords * length is) table ≡ rowsOf 0 is ps → Rows table 0 0 is ps
+unfolding part
+rows-laid table is ps e = rows-at table 0 0 is ps e
 
 -- ---- all of them
 
@@ -109,3 +146,18 @@ module _ (f : List ℕ) (start : ℕ) (table numbers : List ℕ) where
 
     pub shapes-here : Folds ps (foldedFrom f start n) → shapesFrom table 0 n ≡ shapesOf (numbered (foldedFrom f start n) ps m)
     shapes-here right = rw no-further at (shapes-from n 0 0 ps m (rw no-further right) (rw no-further rows))
+
+    -- so the sizes that are found by the table are those of the unfolded score
+    module _ (right : Folds ps (foldedFrom f start n)) where
+      pub items-here : treeItems (treeUnfolded (shapesFrom table 0 n)) ≡ items (unfolded (numbered (foldedFrom f start n) ps m))
+      items-here = ap (λ (l : List Shape). treeItems (treeUnfolded l)) (shapes-here right) ∙ sym (items-same (numbered (foldedFrom f start n) ps m))
+
+      pub actions-here : treeActions (treeUnfolded (shapesFrom table 0 n)) ≡ actions (unfolded (numbered (foldedFrom f start n) ps m))
+      actions-here = ap (λ (l : List Shape). treeActions (treeUnfolded l)) (shapes-here right) ∙ sym (actions-same (numbered (foldedFrom f start n) ps m))
+
+      pub depth-here : treeDepth (treeUnfolded (shapesFrom table 0 n)) ≡ depth (unfolded (numbered (foldedFrom f start n) ps m))
+      depth-here = ap (λ (l : List Shape). treeDepth (treeUnfolded l)) (shapes-here right) ∙ sym (depth-same (numbered (foldedFrom f start n) ps m))
+
+      -- and the table says what the items read by it are
+      pub shapes-read : take (length (allValues (foldedFrom f start n) ps)) numbers ≡ numbersOf m (allValues (foldedFrom f start n) ps) → shapesFrom table 0 n ≡ shapesOf (numberedIn f start table numbers 0 n)
+      shapes-read all = shapes-here right ∙ ap shapesOf (sym (numbered-here all))

@@ -56,3 +56,8 @@ pub data Rows (table : List ℕ) : (k before : ℕ) → List Folded → List Poi
   no-rows : {k before : ℕ} {ps : List Point} → Rows table k before [] ps
   row : {k before : ℕ} {i : Folded} {is : List Folded} {ps : List Point} → shapeAt table k ≡ record { kind = i .item .kind; last = i .item .last; times = timesOf i ps }
       → firstAt table k ≡ before → Rows table (k + 1) (before + length (valuesOf i ps)) is (pointsAfter i ps) → Rows table k before (i ∷ is) ps
+
+-- The same as a list of words: of each item its kind, its last, its times, and how many values stand before its own.
+unfoldable pub rowsOf : (before : ℕ) → List Folded → List Point → List ℕ
+rowsOf before [] ps = []
+rowsOf before (i ∷ is) ps = i .item .kind ∷ i .item .last ∷ timesOf i ps ∷ before ∷ rowsOf (before + length (valuesOf i ps)) is (pointsAfter i ps)

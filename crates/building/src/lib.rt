@@ -11,8 +11,9 @@ ghost use Rattle.shapes.specs.Shapes.{shapesFrom};
 ghost use Rattle.unfolding.specs.Unfolded.{unfolded, items, actions, depth, page};
 ghost use Rattle.building.specs.Rows.{numberedIn, shapesOf};
 
+mod curves;
+mod groups;
 mod pages;
-mod pieces;
 mod told;
 
 // The `count` items of the extended score whose table starts at the byte `start`, unfolded. `table` has each item's shape and the place of its first number in

@@ -1,7 +1,7 @@
 -- Each step through the values, in the code's own terms. The invariant: the list as it stands, with the values left, is the list with all of them, and the
 -- numbers that are laid are those before theirs.
 -- Assumes nothing.
-use mathlib.Core.Path.{_≡_, refl, sym, ap, _∙_}
+use mathlib.Core.Path.{_≡_, refl, sym, _∙_}
 use mathlib.Core.Bool.{Bool, true, false}
 use mathlib.Core.List.{List, [], _∷_, _++_, append-assoc, append-nil, map}
 use Prim.Native.Nat.{ℕ, _+_, _*_, _<_, _≤_}
@@ -17,7 +17,7 @@ use Rattle.contents.specs.Limits.{messageSize, mostMessages, mostText}
 use Rattle.values.specs.Integers.{wholeRange}
 use Rattle.values.specs.Inner.{valueOf}
 use Rattle.extended.specs.declared.Extent.{Extent}
-use Rattle.unfolding.specs.Messages.{Messages, entriesFrom, entriesBytes, numberOf, withValue, withValues, numbersOf}
+use Rattle.unfolding.specs.Messages.{Messages, entriesBytes, numberOf, withValue, withValues, numbersOf}
 use Rattle.naming.specs.declared.Naming.{Naming}
 use Rattle.naming.specs.declared.Naming.the-variants.{Named, Over}
 use Rattle.naming.specs.declared.places.Place.{Place}

@@ -5,11 +5,11 @@ use mathlib.Core.List.{List, [], _∷_, _++_, append-assoc}
 use Prim.Native.Nat.{ℕ, zero, suc, _+_, _-_, _*_, _<_, _≤_}
 use native.Mathlib.Numerals.{add-one}
 use native.Mathlib.Omega.{arith}
-use lib.ListN.{length, take, drop, getD, length-append, take-append-drop}
+use lib.ListN.{length, take, drop, getD, take-append-drop}
 use lib.Seq.{length-take-le, take-at, drop-at, take-take, getD-take}
 use Rattle.ascii.specs.Laying.{Laid}
 use Rattle.contents.specs.Limits.{messageSize}
-use Rattle.contents.specs.Bytes.{byteAt, u16At}
+use Rattle.contents.specs.Bytes.{u16At}
 use Rattle.score.specs.Encode.{le16}
 use Rattle.score.proofs.EncodingBytes.{u16-on, u16-read}
 use Rattle.filing.specs.Pieces.{entryOf}

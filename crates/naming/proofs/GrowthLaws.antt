@@ -1,17 +1,17 @@
 -- The list as it grows: what lies within the text keeps its bytes, and no list gets shorter.
 -- Assumes nothing.
-use mathlib.Core.Path.{_≡_, refl, sym, ap, _∙_}
+use mathlib.Core.Path.{_≡_, refl, sym}
 use mathlib.Core.Bool.{Bool, true, false}
-use mathlib.Core.List.{List, [], _∷_, _++_, append-nil}
+use mathlib.Core.List.{List, [], _∷_, _++_}
 use Prim.Native.Nat.{ℕ, _+_, _<_, _≤_}
 use native.Mathlib.Omega.{arith}
-use lib.Dec.{leb, ltb}
+use lib.Dec.{ltb}
 use lib.IntN.{ℤ}
-use lib.ListN.{length, take, drop, length-append, length-drop}
+use lib.ListN.{length, drop, length-append, length-drop}
 use lib.Seq.{take-length, take-append-le, drop-append-le, drop-append-seam}
-use borrow.Author.Tests.{le-leb, lt-leb, leb-true, leb-false, lt-ltb, le-ltb}
-use Rattle.base.specs.Tests.{pick, every}
-use Rattle.base.proofs.TestLaws.{every-end, every-pass, every-stop, every-head, every-rest}
+use borrow.Author.Tests.{le-leb, leb-true, lt-ltb, le-ltb}
+use Rattle.base.specs.Tests.{pick}
+use Rattle.base.proofs.TestLaws.{every-end, every-pass, every-head, every-rest}
 use Rattle.contents.specs.Limits.{mostMessages, mostText}
 use Rattle.contents.specs.Bytes.{part}
 use Rattle.values.specs.Digits.{digits}

@@ -1,6 +1,6 @@
 -- Each step of finding a label's key and the messages' keys, in the code's own terms.
 -- Assumes nothing.
-use mathlib.Core.Path.{_≡_, refl, sym, ap, _∙_}
+use mathlib.Core.Path.{_≡_, refl, sym, _∙_}
 use mathlib.Core.Bool.{Bool, true, false}
 use mathlib.Core.List.{List, [], _∷_, _++_}
 use Prim.Native.Nat.{ℕ, zero, suc, _+_, _-_, _*_, _^_, _<_, _≤_}
@@ -13,11 +13,11 @@ use borrow.Author.Tests.{le-leb, lt-leb}
 use borrow.Author.Needs.{needs}
 use Rattle.base.specs.Tests.{pick}
 use Rattle.ascii.proofs.WordSteps.{drop-next}
-use Rattle.contents.specs.Limits.{messageSize, mostMessages}
+use Rattle.contents.specs.Limits.{messageSize}
 use Rattle.contents.specs.Bytes.{u16At, part}
 use Rattle.values.specs.Inner.{mostDigits}
-use Rattle.unfolding.specs.Messages.{Entry, entriesFrom}
-use Rattle.naming.specs.Inner.{mostSymbol, symbol, allSymbols, folded, keyOf, entryAt, keyIn, keysOf}
+use Rattle.unfolding.specs.Messages.{entriesFrom}
+use Rattle.naming.specs.Inner.{symbol, allSymbols, folded, keyOf, entryAt, keyIn, keysOf}
 use Rattle.naming.proofs.EntryLaws.{entries-last}
 use Rattle.naming.proofs.KeyLaws.{symbol-minus, symbol-under, symbol-over, symbol-digit, symbols-at, symbols-more, folded-small, key-some, key-long, key-other, keys-behind}
 

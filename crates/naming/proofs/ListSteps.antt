@@ -1,9 +1,9 @@
 -- Each step of copying the score's messages, and of seeing whether each lies within the text, in the code's own terms.
 -- Assumes nothing.
-use mathlib.Core.Path.{_≡_, refl, sym, ap, _∙_}
+use mathlib.Core.Path.{_≡_, refl, _∙_}
 use mathlib.Core.Bool.{Bool, true, false}
 use mathlib.Core.List.{List, [], _∷_, _++_}
-use Prim.Native.Nat.{ℕ, suc, _+_, _-_, _*_, _<_, _≤_}
+use Prim.Native.Nat.{ℕ, _+_, _-_, _*_, _<_, _≤_}
 use native.Mathlib.Omega.{arith}
 use lib.Dec.{leb}
 use lib.ListN.{length, take, drop}
@@ -16,12 +16,12 @@ use Rattle.contents.specs.Limits.{messageSize, mostMessages, mostText}
 use Rattle.contents.specs.Bytes.{u16At, part}
 use Rattle.contents.proofs.PartLaws.{part-length}
 use Rattle.extended.specs.declared.Extent.{Extent}
-use Rattle.extended.specs.Layout.{extentOf, messagesStart, textStart, pointsStart}
+use Rattle.extended.specs.Layout.{messagesStart, textStart, pointsStart}
 use Rattle.extended.specs.Inner.{Foldable}
 use Rattle.filing.specs.Pieces.{entryOf}
-use Rattle.unfolding.specs.Messages.{Entry, Messages, entriesFrom, entriesBytes}
+use Rattle.unfolding.specs.Messages.{entriesFrom, entriesBytes}
 use Rattle.unfolding.specs.Extended.{extendedOf}
-use Rattle.naming.specs.Inner.{entryAt, allWithin, messagesIn, ListRoom, Copied, Standing}
+use Rattle.naming.specs.Inner.{entryAt, allWithin, messagesIn, Copied, Standing}
 use Rattle.naming.proofs.EntryLaws.{entries-next, entries-none, entries-last, entries-joined, bytes-joined}
 
 -- ---- entries copied

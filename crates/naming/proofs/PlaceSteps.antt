@@ -3,16 +3,15 @@
 use mathlib.Core.Path.{_≡_, refl, sym, ap, _∙_}
 use mathlib.Core.Bool.{Bool, true, false}
 use mathlib.Core.List.{List, [], _∷_, _++_}
-use Prim.Native.Nat.{ℕ, zero, suc, _+_, _-_, _*_, _/_, _%_, _<_, _≤_}
+use Prim.Native.Nat.{ℕ, _+_, _-_, _*_, _/_, _%_, _<_, _≤_}
 use native.Mathlib.Numerals.{add-one}
 use native.Mathlib.Omega.{arith}
 use lib.Dec.{ltb}
-use lib.IntN.{ℤ}
-use lib.ListN.{length, take, set, length-append, length-set}
+use lib.ListN.{length, take, length-append, length-set}
 use lib.Seq.{length-take-le, take-set-le, take-suc-set}
 use borrow.Author.Tests.{ltb-true, ltb-false}
 use borrow.Author.Needs.{needs}
-use Rattle.base.specs.Tests.{every, between}
+use Rattle.base.specs.Tests.{between}
 use Rattle.base.proofs.TestLaws.{every-head, every-rest, between-low, between-high}
 use Rattle.ascii.specs.Words.{zeroDigit, nineDigit}
 use Rattle.ascii.specs.Numbers.{isDigit, allDigits}
@@ -25,11 +24,10 @@ use Rattle.values.specs.Digits.{minus, digits}
 use Rattle.values.specs.Inner.{valueOf, mostDigits}
 use Rattle.values.proofs.DigitLaws.{digits-at-or-above, digits-below}
 use Rattle.filing.specs.Pieces.{entryOf}
-use Rattle.unfolding.specs.Messages.{Entry, Messages, entriesFrom, entriesBytes, numberOf, joined, withValue}
+use Rattle.unfolding.specs.Messages.{Messages, entriesFrom, numberOf, joined, withValue}
 use Rattle.naming.specs.declared.places.Place.{Place}
 use Rattle.naming.specs.declared.places.Place.the-variants.{At, Full}
-use Rattle.naming.specs.Named.{fits}
-use Rattle.naming.specs.Inner.{symbol, allSymbols, keyOf, keysOf, messagesIn, allWithin, ListRoom, Standing, Keyed, Searchable, Finds, Joins, joins, joins-none, Placed, placed, placed-none}
+use Rattle.naming.specs.Inner.{symbol, allSymbols, keyOf, keysOf, messagesIn, allWithin, Standing, Keyed, Searchable, Finds, Joins, joins, joins-none, Placed, placed, placed-none}
 use Rattle.naming.proofs.EntryLaws.{entries-length, entries-joined, bytes-joined}
 use Rattle.naming.proofs.KeyLaws.{symbol-minus, symbol-digit, symbols-more, keys-behind}
 use Rattle.naming.proofs.GrowthLaws.{within-grown, keys-grown, key-last, many, long, with-old, with-new}

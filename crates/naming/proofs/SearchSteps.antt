@@ -1,8 +1,8 @@
 -- Each step of searching a message by its bytes or by its key, in the code's own terms.
 -- Assumes nothing.
-use mathlib.Core.Path.{_≡_, refl, sym, ap, _∙_}
+use mathlib.Core.Path.{_≡_, refl, sym, _∙_}
 use mathlib.Core.Bool.{Bool, true, false}
-use mathlib.Core.List.{List, [], _∷_, _++_}
+use mathlib.Core.List.{List}
 use Prim.Native.Nat.{ℕ, suc, _+_, _-_, _*_, _<_, _≤_}
 use native.Mathlib.Omega.{arith}
 use lib.Dec.{ltb}
@@ -10,14 +10,13 @@ use lib.ListN.{length, take, drop, getD, set}
 use lib.Seq.{lt-length-set, length-take-le, take-set-le, getD-take, getD-set-same}
 use borrow.Author.Tests.{le-leb, lt-leb, ltb-true, ltb-false}
 use borrow.Author.Needs.{needs}
-use Rattle.base.specs.Tests.{pick, every}
+use Rattle.base.specs.Tests.{pick}
 use Rattle.base.proofs.TestLaws.{every-pass, every-stop, every-last}
 use Rattle.ascii.specs.Words.{same, bytesBefore}
 use Rattle.ascii.proofs.WordSteps.{before-start, before-none, before-found, before-step}
-use Rattle.contents.specs.Limits.{messageSize, mostMessages}
+use Rattle.contents.specs.Limits.{messageSize}
 use Rattle.contents.specs.Bytes.{u16At, part}
-use Rattle.values.specs.Inner.{mostDigits}
-use Rattle.unfolding.specs.Messages.{Entry, isNamed, entriesFrom, numberIn}
+use Rattle.unfolding.specs.Messages.{isNamed, entriesFrom, numberIn}
 use Rattle.naming.specs.Inner.{entryAt, keyOf, keysOf, KeyFound, Searchable, Finds}
 use Rattle.naming.proofs.EntryLaws.{entries-next, entries-none}
 use Rattle.naming.proofs.KeyLaws.{number-key}

@@ -8,7 +8,7 @@ use lib.IntN.{ℤ}
 use lib.ListN.{length, take, getD, set}
 use Rattle.base.specs.Tests.{pick, every, between}
 use Rattle.ascii.specs.Words.{zeroDigit, nineDigit, bytesBefore}
-use Rattle.contents.specs.Limits.{messageSize, mostActions, mostMessages, mostText}
+use Rattle.contents.specs.Limits.{messageSize, mostMessages, mostText}
 use Rattle.contents.specs.Bytes.{u16At, part}
 use Rattle.values.specs.Digits.{minus}
 use Rattle.values.specs.Integers.{wholeRange}

@@ -1,10 +1,10 @@
 // The score's own messages, copied to the fronts of lent bytes, and whether each of them lies within the text.
 ghost use mathlib.Core.Path.{_≡_};
 ghost use Prim.Native.Nat.{_+_, _*_, _≤_};
-ghost use lib.ListN.{length, take};
+ghost use lib.ListN.{length};
 ghost use Rattle.contents.specs.Limits.{messageSize, mostMessages, mostText};
 ghost use Rattle.extended.specs.Inner.{Foldable};
-ghost use Rattle.unfolding.specs.Messages.{entriesFrom, entriesBytes};
+ghost use Rattle.unfolding.specs.Messages.{entriesFrom};
 ghost use Rattle.unfolding.specs.Extended.{extendedOf};
 ghost use Rattle.naming.specs.Inner.{allWithin, ListRoom, Copied, messagesIn, Standing};
 use ascii::put_bytes;

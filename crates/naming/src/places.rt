@@ -30,10 +30,11 @@ fn join(entries: &mut [u8], n: usize, labels: &mut [u8], text: usize, name: &[u8
     ensures { λ r. ⌜ Joins (messagesIn (now (entries .entry)) (now (labels .entry)) n text) (now (name .entry)) (now (entries .exit)) (now (labels .exit)) n r ⌝ }
 {
     let size = name.len();
+    let end = text + size;
     if MOST_MESSAGES <= n {
         return Place::Full;
     }
-    if MOST_TEXT < text + size {
+    if MOST_TEXT < end {
         return Place::Full;
     }
     put_entry(entries, MESSAGE_SIZE * n, text, size);
@@ -41,7 +42,7 @@ fn join(entries: &mut [u8], n: usize, labels: &mut [u8], text: usize, name: &[u8
     Place::At {
         number: n,
         messages: n + 1,
-        text: text + size,
+        text: end,
     }
 }
 

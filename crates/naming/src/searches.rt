@@ -1,11 +1,10 @@
 // The first message with just these bytes: "A value's message is the first one of the list, as it then stands, with just those bytes".
 ghost use mathlib.Core.Path.{_≡_};
 ghost use Prim.Native.Nat.{_+_, _*_, _≤_, _<_};
-ghost use lib.ListN.{length, take, set};
-ghost use Rattle.ascii.specs.Words.{bytesBefore};
+ghost use lib.ListN.{length};
 ghost use Rattle.contents.specs.Limits.{messageSize};
 ghost use Rattle.unfolding.specs.Messages.{isNamed, entriesFrom, numberIn};
-ghost use Rattle.naming.specs.Inner.{entryAt, keyOf, Searchable, Finds, KeyFound};
+ghost use Rattle.naming.specs.Inner.{entryAt, Searchable, Finds, KeyFound};
 use crate::keys::key_of;
 use ascii::same;
 use contents::bytes::read16;
@@ -17,11 +16,11 @@ fn find_key(keys: &mut [u64], n: usize, key: u64) -> usize
     ensures { λ r. ⌜ KeyFound (now (keys .entry)) n key (now (keys .exit)) r ⌝ }
 {
     keys[n] = key;
-    let mut i = 0;
-    while keys[i] != key {
-        i += 1;
+    let mut at = 0;
+    while keys[at] != key {
+        at += 1;
     }
-    i
+    at
 }
 
 // Whether the message whose entry stands at the byte `at` has just this name.

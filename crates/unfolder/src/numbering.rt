@@ -2,7 +2,8 @@
 ghost use mathlib.Core.Path.{_≡_};
 ghost use Prim.Native.Nat.{_≤_};
 ghost use lib.ListN.{length};
-ghost use Rattle.contents.specs.Limits.{longestScore};
+ghost use Rattle.contents.specs.Limits.{mostActions, longestScore};
+ghost use Rattle.filing.specs.Bodies.{ListRoom};
 ghost use Rattle.unfolder.specs.Inner.{Answers, Measured, Nameable, Listed};
 use crate::finishing::finish;
 use building::build_page;
@@ -48,7 +49,35 @@ fn lay(
     finish(extended, k, &items, entries, labels, room)
 }
 
-// The values find their messages, or join the list.
+// The values find their messages, or join the list, in these rooms.
+fn list(
+    extended: &[u8],
+    c: Extent,
+    table: &[u32],
+    items: usize,
+    values: &[u64],
+    count: usize,
+    entries: &mut [u8],
+    labels: &mut [u8],
+    numbers: &mut [u16],
+    room: &mut [u8],
+) -> Unfolding
+    requires { ⌜ Nameable (now extended) c (now table) items (now values) count × ListRoom (now entries) (now labels) × (mostActions ≤ length (now numbers)) × (longestScore ≤ length (now room)) ⌝ }
+    ensures { λ r. ⌜ Answers (now (extended .entry)) (now (room .entry)) (now (room .exit)) r ⌝ }
+{
+    let named = name_values(extended, c, values, count, entries, labels, numbers);
+    let Naming::Named { messages, text } = named else {
+        return Unfolding::OverLimit;
+    };
+    let k = Counts {
+        events: c.events,
+        items,
+        messages,
+        text,
+    };
+    lay(extended, c, table, numbers, k, entries, labels, room)
+}
+
 fn name(
     extended: &[u8],
     c: Extent,
@@ -64,25 +93,18 @@ fn name(
     let mut entries = [0; ENTRIES_ROOM];
     let mut labels = [0; LABELS_ROOM];
     let mut numbers = [0; VALUES_ROOM];
-    let named = name_values(
+    list(
         extended,
         c,
+        table,
+        items,
         values,
         count,
         &mut entries,
         &mut labels,
         &mut numbers,
-    );
-    let Naming::Named { messages, text } = named else {
-        return Unfolding::OverLimit;
-    };
-    let k = Counts {
-        events: c.events,
-        items,
-        messages,
-        text,
-    };
-    lay(extended, c, table, &numbers, k, &entries, &labels, room)
+        room,
+    )
 }
 
 // A score whose items, actions and depth are within the limits: so many items.

@@ -15,9 +15,9 @@ use Rattle.building.proofs.pages.+build_item+build_items+build_loop+bui
 use Rattle.building.proofs.pages.build_passes.Reads as build-passes
 use Rattle.building.proofs.pages.build_passes.Kinds as build-passes-kinds
 use Rattle.building.proofs.pages.+build_item+build_items+build_loop+build_passes.Lts-build_passes as build-passes-lts
-use Rattle.building.proofs.pieces.build_values.Reads as build-values-reads
-use Rattle.building.proofs.pieces.put_group.Reads as put-group-reads
-use Rattle.building.proofs.pieces.put_pass.Reads as put-pass-reads
+use Rattle.building.proofs.curves.build_values.Reads as build-values-reads
+use Rattle.building.proofs.groups.put_group.Reads as put-group-reads
+use Rattle.building.proofs.groups.put_pass.Reads as put-pass-reads
 use Rattle.building.proofs.told.body_at.Reads as body-at-reads
 use Rattle.building.proofs.told.first_at.Reads as first-at-reads
 use Rattle.building.proofs.told.size_of.Reads as size-of-reads
@@ -40,8 +40,10 @@ use Rattle.extended.specs.Inner.{wordRange}
 use Rattle.unfolding.specs.Unfolded.{unfolded, passes, items}
 use Rattle.building.specs.Rows.{numberedIn}
 use Rattle.building.specs.Inner.{pageBytes, delayOf, Tabled, Buildable}
-use Rattle.building.proofs.BuildSteps.{Goes, other-room, curve-part, curve-laid, group-laid, pass-step, pass-left, fitting, positive, group-asks, group-made, loop-made, built-on, pass-product, pass-few, pass-sent, pass-flat, item-under, group-under, tabled-body, sized, sized-few, sized-sent, sized-flat, curve-long, curve-few, curve-room, curve-whole, one-tabled, others-tabled, one-made, others-made, others-on, none-left, passes-start, passes-room, pass-made, item-built, items-built, loop-built, passes-built}
-use Rattle.building.proofs.PieceSteps.{delay-next}
+use Rattle.building.proofs.TableSteps.{curve-part, tabled-body, sized, sized-few, sized-sent, sized-flat, curve-long, curve-whole}
+use Rattle.building.proofs.ItemSteps.{other-room, curve-laid, group-laid, fitting, group-asks, group-made, loop-made, built-on, item-under, group-under, curve-few, curve-room, item-built}
+use Rattle.building.proofs.PassSteps.{pass-step, pass-left, positive, pass-product, pass-few, pass-sent, pass-flat, pass-made, loop-built, passes-built}
+use Rattle.building.proofs.BuildSteps.{Goes, others-tabled, others-made, others-on, none-left, items-built}
 
 abbrev μ-build-item : Measures 4 build-item-kinds.ps ℕ
 μ-build-item κs a = 4 * (9 - a .1 .1 .1 .1 .1 .1 .0) + 2
@@ -420,8 +422,8 @@ build-passes-loop-again t c =
       omega (arith, some),
       pass-step _ _ _ _ _ _ _ _ _ (inv .1) some (inv .2) _ _ _ _ _ _ (asked .2) (inv .3) (put .0) (put .1) body,
       pass-left _ _ _ _ _ _ _ _ _ (inv .1) some (inv .2) _ _ _ _ _ _ (asked .2) (inv .3) (put .0) (put .1) body,
-      delay-next _ _,
-      asked .1 .each,
+      search passes-built,
+      search passes-built,
     )
 
 build-passes-same-length : (t : ℕ) → build-passes-lts.Need-same-length (build-passes-claims t) (build-passes-at t) build-passes.Post build-passes-Inv-loop build-passes-μ-loop

@@ -2,8 +2,7 @@
 -- Assumes nothing.
 use Prim.Native.Nat.{_-_}
 use Rattle.naming.specs.Inner.{messagesIn}
-use Rattle.naming.proofs.EachSteps.{Going}
-use Rattle.naming.proofs.EachSteps.{naming}
+use Rattle.naming.proofs.EachSteps.{Going, naming}
 use Rattle.naming.proofs.all.name_each.Statement.{statement}
 use Rattle.naming.proofs.all.name_each.Tie as tie
 

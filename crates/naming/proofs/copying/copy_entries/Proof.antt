@@ -1,8 +1,7 @@
 -- The invariant: the entries passed are copied.
 -- Assumes nothing.
 use Prim.Native.Nat.{_-_, _≤_}
-use Rattle.naming.proofs.ListSteps.{Copying}
-use Rattle.naming.proofs.ListSteps.{copying}
+use Rattle.naming.proofs.ListSteps.{Copying, copying}
 use Rattle.naming.proofs.copying.copy_entries.Statement.{statement}
 use Rattle.naming.proofs.copying.copy_entries.Tie as tie
 

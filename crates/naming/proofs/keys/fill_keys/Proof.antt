@@ -1,8 +1,7 @@
 -- The invariant: the messages passed have their keys.
 -- Assumes nothing.
 use Prim.Native.Nat.{_-_, _≤_}
-use Rattle.naming.proofs.KeySteps.{Keying, keys-step}
-use Rattle.naming.proofs.KeySteps.{keys-filling}
+use Rattle.naming.proofs.KeySteps.{Keying, keys-step, keys-filling}
 use Rattle.naming.proofs.keys.fill_keys.Statement.{statement}
 use Rattle.naming.proofs.keys.fill_keys.Tie as tie
 

@@ -1,7 +1,6 @@
 -- The invariant: the bytes passed are symbols, and the key is theirs.
 -- Assumes nothing.
-use Rattle.naming.proofs.KeySteps.{KeyGoing}
-use Rattle.naming.proofs.KeySteps.{keying}
+use Rattle.naming.proofs.KeySteps.{KeyGoing, keying}
 use Rattle.naming.proofs.keys.key_of.Statement.{statement}
 use Rattle.naming.proofs.keys.key_of.Tie as tie
 

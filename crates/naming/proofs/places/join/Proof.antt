@@ -17,5 +17,4 @@ join-spec =
     (λ c. search joining)
     (λ c. search joining)
     (λ c. search joining)
-    (λ c. search joining)
     (λ c. search joining))

@@ -1,11 +1,11 @@
 -- The item that is laid is the definition's.
 -- Assumes nothing.
 use Rattle.building.proofs.PieceSteps.{pieces}
-use Rattle.building.proofs.pieces.put_send.Statement.{statement}
-use Rattle.building.proofs.pieces.put_send.Tie as tie
+use Rattle.building.proofs.groups.put_group.Statement.{statement}
+use Rattle.building.proofs.groups.put_group.Tie as tie
 
-pub put-send-spec : {M : Type 1} → statement M
-put-send-spec =
+pub put-group-spec : {M : Type 1} → statement M
+put-group-spec =
     tie.close
     (tie.spec
     (λ c κs. search pieces)

@@ -9,8 +9,8 @@ use Rattle.extended.specs.Inner.{wordRange}
 use Rattle.unfolding.specs.Unfolded.{sends}
 use Rattle.building.specs.Inner.{pageBytes, delayOf}
 use Rattle.building.proofs.PieceSteps.{valuing}
-use Rattle.building.proofs.pieces.build_values.Statement.{statement}
-use Rattle.building.proofs.pieces.build_values.Tie as tie
+use Rattle.building.proofs.curves.build_values.Statement.{statement}
+use Rattle.building.proofs.curves.build_values.Tie as tie
 
 abbrev Inv-loop : tie.InvT-loop
 Inv-loop i step numbers first times out₀ to at₀ p₀ delay₀ out at p delay =
