@@ -1,2 +1,15 @@
 -- Laws of unfolding.
 mod ReplySteps
+pub mod Shapes
+pub mod CountLaws
+pub mod CurveItems
+pub mod MessageLaws
+pub mod Nesting
+pub mod SelfLaws
+pub mod Fitting
+pub mod FileLaws
+pub mod OneOutcome
+pub mod PlainFiles
+pub mod PlainNesting
+pub mod PlainScores
+pub mod Examples

@@ -1,0 +1,4 @@
+-- An unfolded score as the rules read it.
+pub mod Sequences
+pub mod Tops
+pub mod Runs

@@ -1,0 +1,283 @@
+-- Whoever unfolds by these contracts tells the same and leaves the same room; which answer comes when, and which numbers never come.
+-- Assumes nothing.
+use mathlib.Core.Path.{_≡_, refl, sym, _∙_}
+use mathlib.Core.Bool.{Bool, true, false}
+use mathlib.Core.List.{List, [], _∷_}
+use Prim.Native.Nat.{ℕ, zero, suc, _+_, _*_, _<_, _≤_}
+use native.Mathlib.Omega.{arith}
+use lib.Dec.{leb}
+use lib.ListN.{length, drop, take, length-append, length-drop}
+use borrow.Author.Tests.{leb-true, le-leb, lt-leb, eq-eqb}
+use Rattle.page.specs.declared.Item.{Item}
+use Rattle.base.specs.Tests.{pick}
+use Rattle.base.specs.Checks.{Check, fine, refused, need, firstFault}
+use Rattle.base.proofs.TestLaws.{between-in}
+use Rattle.contents.specs.declared.Fault.{Fault}
+use Rattle.contents.specs.declared.Fault.the-variants.{BadEvent, BadItem, BadMessage, TextLeft}
+use Rattle.contents.specs.declared.Counts.{Counts}
+use Rattle.contents.specs.Limits.{contentsSize, eventSize, itemSize, messageSize, longestScore}
+use Rattle.contents.specs.Bytes.{u16At}
+use Rattle.contents.specs.Contents.{offsetsOf, countsOf, countsRight, offsetsRight, eventsAt, itemsAt, messagesAt, textAt, sizeOf}
+use Rattle.contents.specs.Inner.{Counted}
+use Rattle.contents.specs.Replies.{faultRow}
+use Rattle.items.specs.declared.walk.Walk.{Walk}
+use Rattle.items.specs.declared.walk.Walk.the-variants.{Actions, Stop}
+use Rattle.items.specs.declared.Setting.{Setting}
+use Rattle.items.specs.Items.{withinOf, ownOf, next, inside, onward, walkOf, walked, outset, walkFault, itemsRight}
+use Rattle.messages.specs.Messages.{messagesRight}
+use Rattle.score.specs.Events.{eventsRight}
+use Rattle.score.specs.Piece.{decode}
+use Rattle.score.specs.File.{bodiesRight, checked}
+use Rattle.score.proofs.EncodingReads.{offsetsIn, counts-read, offsets-read}
+use Rattle.extended.specs.Right.{extendedRight}
+use Rattle.unfolding.specs.declared.Unfolding.{Unfolding}
+use Rattle.unfolding.specs.declared.Unfolding.the-variants.{Made, NoRoom, BadExtended, OverLimit, BadFile}
+use Rattle.unfolding.specs.Extended.{extendedOf}
+use Rattle.unfolding.specs.Sizes.{Score, scoreOf, countsOn, withinLimits, fileOf}
+use Rattle.unfolding.specs.Answers.{unfoldedFile, judged, answered, unfoldAnswer, roomLeft}
+use Rattle.unfolding.specs.Replies.{unfoldRow}
+use Rattle.unfolding.proofs.Fitting.{limits-counted}
+use Rattle.unfolding.proofs.FileLaws.{file-size}
+
+-- ---- one outcome
+
+module _ (f m : List ℕ) where
+  pub one-outcome : (new other : List ℕ) (r s : Unfolding) → r ≡ unfoldAnswer (length m) f → new ≡ roomLeft r (unfoldedFile f) m → s ≡ unfoldAnswer (length m) f
+      → other ≡ roomLeft s (unfoldedFile f) m → (r ≡ s) × (new ≡ other)
+  one-outcome new other r s a b c d = (a ∙ sym c, cc)
+
+-- A refusal leaves the room: every answer whose number is not 0.
+pub refusal-leaves : (r : Unfolding) (made m : List ℕ) → (unfoldRow r .number ≡ 0 → ⊥) → roomLeft r made m ≡ m
+unfolding unfoldRow roomLeft
+refusal-leaves (Made n) made m h = absurd (h refl)
+refusal-leaves NoRoom made m h = refl
+refusal-leaves (BadExtended place) made m h = refl
+refusal-leaves OverLimit made m h = refl
+refusal-leaves (BadFile x) made m h = refl
+
+-- ---- which answer comes when, in the order of the checks
+
+module _ (room : ℕ) (f : List ℕ) where
+  -- 2: a room that is too short, whatever the file.
+  pub room-short : room < longestScore → unfoldAnswer room f ≡ NoRoom
+  unfolding unfoldAnswer pick
+  room-short l = rw (lt-leb longestScore room l)
+
+  module _ (l : longestScore ≤ room) where
+    -- 17, with the place of what can't be unfolded.
+    pub extended-bad : (place : ℕ) → extendedRight f ≡ refused place → unfoldAnswer room f ≡ BadExtended place
+    unfolding unfoldAnswer pick answered
+    extended-bad place e = rw (le-leb longestScore room l, e)
+
+    module _ (e : extendedRight f ≡ fine) where
+      -- 18, at 0.
+      pub limit-broken : withinLimits (scoreOf (extendedOf f)) ≡ false → unfoldAnswer room f ≡ OverLimit
+      unfolding unfoldAnswer pick answered
+      limit-broken w = rw (le-leb longestScore room l, e, w)
+
+      -- The unfolded file's own fault, with its place in that file.
+      pub file-bad : (x : Fault) → withinLimits (scoreOf (extendedOf f)) ≡ true → checked (unfoldedFile f) ≡ refused x → unfoldAnswer room f ≡ BadFile x
+      unfolding unfoldAnswer pick answered judged
+      file-bad x w c = rw (le-leb longestScore room l, e, w, c)
+
+      -- All is well: so many bytes were made.
+      pub file-made : withinLimits (scoreOf (extendedOf f)) ≡ true → checked (unfoldedFile f) ≡ fine → unfoldAnswer room f ≡ Made (length (unfoldedFile f))
+      unfolding unfoldAnswer pick answered judged
+      file-made w c = rw (le-leb longestScore room l, e, w, c)
+
+-- 17 is told with its place, 18 at 0.
+pub extended-told : (place : ℕ) → unfoldRow (BadExtended place) ≡ record { number = 17; place = place; size = 0 }
+unfolding unfoldRow
+extended-told place = refl
+
+pub limit-told : unfoldRow OverLimit ≡ record { number = 18; place = 0; size = 0 }
+unfolding unfoldRow
+limit-told = refl
+
+-- ---- the contents of what is made are right
+
+offsets-right : (c : Counts) → offsetsRight (offsetsIn c) c (sizeOf c) ≡ fine
+unfolding offsetsRight firstFault need
+offsets-right c = rw (eq-eqb (itemsAt c) _ refl, eq-eqb (messagesAt c) _ refl, eq-eqb (textAt c) _ refl, eq-eqb (sizeOf c) _ refl)
+
+module _ (s : Score) (k : Counted (countsOn s)) where
+  file-long : leb contentsSize (length (fileOf s)) ≡ true
+  file-long = le-leb contentsSize (length (fileOf s)) (omega (arith, file-size s))
+
+  counts-file : countsOf (fileOf s) ≡ countsOn s
+  unfolding fileOf
+  counts-file = counts-read (fileOf s) (countsOn s) _ k refl
+
+  file-counts : countsRight (countsOf (fileOf s)) ≡ fine
+  unfolding countsRight firstFault need
+  file-counts =
+      rw (
+        counts-file,
+        between-in _ _ _ (k .some) (k .events),
+        le-leb _ _ (k .items),
+        le-leb _ _ (k .messages),
+        le-leb _ _ (k .text),
+      )
+
+  offsets-file : offsetsOf (fileOf s) ≡ offsetsIn (countsOn s)
+  unfolding fileOf
+  offsets-file = offsets-read (fileOf s) (countsOn s) _ k refl
+
+  file-offsets : offsetsRight (offsetsOf (fileOf s)) (countsOf (fileOf s)) (length (fileOf s)) ≡ fine
+  file-offsets = rw (offsets-file, counts-file, file-size s) (offsets-right (countsOn s))
+
+  -- So the file check comes down to the bodies.
+  pub bodies-decide : checked (fileOf s) ≡ bodiesRight (fileOf s) (countsOf (fileOf s))
+  unfolding checked firstFault need
+  bodies-decide = rw (file-long, file-counts, file-offsets) (alone (bodiesRight (fileOf s) (countsOf (fileOf s))))
+    where
+      alone : (v : Check Fault) → firstFault (v ∷ []) ≡ v
+      alone fine = refl
+      alone (refused x) = refl
+
+-- ---- the faults of the bodies
+
+-- Nothing, or a fault of an event, an item or a message: 6, 7 or 8.
+pub data OfBodies : Check Fault → Type 0 where
+  no-fault : OfBodies fine
+  body-fault : {x : Fault} → 6 ≤ faultRow x .number → faultRow x .number ≤ 8 → OfBodies (refused x)
+
+first-of : (v : Check Fault) (l : List (Check Fault)) → OfBodies v → OfBodies (firstFault l) → OfBodies (firstFault (v ∷ l))
+unfolding firstFault
+first-of fine l h k = k
+first-of (refused x) l h k = h
+
+need-of : (b : Bool) (x : Fault) → 6 ≤ faultRow x .number → faultRow x .number ≤ 8 → OfBodies (need b x)
+unfolding need
+need-of true x p q = no-fault
+need-of false x p q = body-fault p q
+
+none-left : OfBodies (firstFault [])
+unfolding firstFault
+none-left = no-fault
+
+events-of : (at : ℕ) (ds : List ℕ) → OfBodies (eventsRight at ds)
+unfolding eventsRight faultRow
+events-of at [] = no-fault
+events-of at (d ∷ ds) = first-of _ _ (need-of _ (BadEvent at) (omega arith) (omega arith)) (first-of _ _ (events-of (at + eventSize) ds) none-left)
+
+messages-of : (f : List ℕ) (c : Counts) (at count from : ℕ) → OfBodies (messagesRight f c at count from)
+unfolding messagesRight faultRow
+messages-of f c at zero from = need-of _ TextLeft (omega arith) (omega arith)
+messages-of f c at (suc count) from =
+    first-of _ _ (need-of _ (BadMessage at) (omega arith) (omega arith))
+    (first-of _ _ (messages-of f c (at + messageSize) count (from + u16At f (at + 2))) none-left)
+
+walk-onward : (w : Walk) (more : ℕ → Walk) → OfBodies (walkFault w) → ((n : ℕ) → OfBodies (walkFault (more n))) → OfBodies (walkFault (onward w more))
+unfolding onward
+walk-onward (Actions n) more h k = k n
+walk-onward (Stop x) more h k = h
+
+walk-pick : (b : Bool) (w : Walk) (at : ℕ) → OfBodies (walkFault w) → OfBodies (walkFault (pick b w (Stop (BadItem at))))
+unfolding pick walkFault faultRow
+walk-pick true w at h = h
+walk-pick false w at h = body-fault {x = BadItem at} (omega arith) (omega arith)
+
+walk-of : (n : ℕ) (c : Counts) (at : ℕ) (is : List Item) (h : Setting) (actions : ℕ) → OfBodies (walkFault (walkOf n c at is h actions))
+unfolding walkOf walkFault
+walk-of zero c at is h actions = no-fault
+walk-of (suc n) c at [] h actions = no-fault
+walk-of (suc n) c at (i ∷ is) h actions =
+    walk-pick _ _ at
+    (walk-onward _ _ (walk-of n c (at + itemSize) (take (withinOf i) is) (inside i h) (actions + ownOf i))
+    (λ m. walk-of n c (at + itemSize + itemSize * withinOf i) (drop (withinOf i) is) (next i h) m))
+
+bodies-of : (f : List ℕ) (c : Counts) → OfBodies (bodiesRight f c)
+unfolding bodiesRight itemsRight walked
+bodies-of f c =
+    first-of _ _ (events-of eventsAt (decode f .durations))
+    (first-of _ _ (walk-of (length (decode f .items)) c (itemsAt c) (decode f .items) outset 0)
+    (first-of _ _ (messages-of f c (messagesAt c) (c .messages) 0) none-left))
+
+-- The check of an unfolded file within the limits finds no fault of its contents.
+pub no-contents-fault : (f : List ℕ) → withinLimits (scoreOf (extendedOf f)) ≡ true → OfBodies (checked (unfoldedFile f))
+unfolding unfoldedFile
+no-contents-fault f w =
+    let s = scoreOf (extendedOf f) in
+    rw (bodies-decide s (limits-counted s w)) (bodies-of (fileOf s) (countsOf (fileOf s)))
+
+-- ---- the numbers that a call to unfold tells
+
+pub data Number : ℕ → Type 0 where
+  granted : Number 0
+  short-room : Number 2
+  of-body : {n : ℕ} → 6 ≤ n → n ≤ 8 → Number n
+  of-extended : Number 17
+  of-limit : Number 18
+
+judged-number : (made : List ℕ) (v : Check Fault) → OfBodies v → Number (unfoldRow (judged made v) .number)
+unfolding judged unfoldRow
+judged-number made fine no-fault = granted
+judged-number made (refused x) (body-fault p q) = of-body p q
+
+limited-number : (f : List ℕ) (b : Bool) → withinLimits (scoreOf (extendedOf f)) ≡ b → Number (unfoldRow (pick b (judged (unfoldedFile f) (checked (unfoldedFile f))) OverLimit) .number)
+unfolding pick unfoldRow
+limited-number f true e = judged-number (unfoldedFile f) (checked (unfoldedFile f)) (no-contents-fault f e)
+limited-number f false e = of-limit
+
+answered-number : (f : List ℕ) (v : Check ℕ) → Number (unfoldRow (answered f v) .number)
+unfolding answered unfoldRow
+answered-number f fine = limited-number f (withinLimits (scoreOf (extendedOf f))) refl
+answered-number f (refused place) = of-extended
+
+room-number : (b : Bool) (u : Unfolding) → Number (unfoldRow u .number) → Number (unfoldRow (pick b u NoRoom) .number)
+unfolding pick unfoldRow
+room-number true u h = h
+room-number false u h = short-room
+
+-- 0, 2, 6, 7, 8, 17 and 18 are all the numbers that it tells.
+pub only-numbers : (room : ℕ) (f : List ℕ) → Number (unfoldRow (unfoldAnswer room f) .number)
+unfolding unfoldAnswer
+only-numbers room f = room-number (leb longestScore room) (answered f (extendedRight f)) (answered-number f (extendedRight f))
+
+not-contents : {n : ℕ} → Number n → 3 ≤ n → n ≤ 5 → ⊥
+not-contents granted p q = absurd (omega arith)
+not-contents short-room p q = absurd (omega arith)
+not-contents (of-body h k) p q = absurd (omega arith)
+not-contents of-extended p q = absurd (omega arith)
+not-contents of-limit p q = absurd (omega arith)
+
+-- "So 3, 4, 5, .. never come from it."
+pub never-contents : (room : ℕ) (f : List ℕ) → 3 ≤ unfoldRow (unfoldAnswer room f) .number → unfoldRow (unfoldAnswer room f) .number ≤ 5 → ⊥
+never-contents room f p q = not-contents (only-numbers room f) p q
+
+-- ---- what was made fits the room
+
+pub made-short : (f : List ℕ) → withinLimits (scoreOf (extendedOf f)) ≡ true → length (unfoldedFile f) ≤ longestScore
+unfolding unfoldedFile
+made-short f w = let k = limits-counted (scoreOf (extendedOf f)) w in omega (arith, file-size (scoreOf (extendedOf f)))
+
+module _ (f m : List ℕ) where
+  abbrev left : Unfolding → ℕ
+  left r = length (roomLeft r (unfoldedFile f) m)
+
+  judged-left : (v : Check Fault) → length (unfoldedFile f) ≤ length m → left (judged (unfoldedFile f) v) ≡ length m
+  unfolding judged roomLeft
+  judged-left fine l =
+      let n = length (unfoldedFile f) in
+      length-append (unfoldedFile f) (drop n m) ∙ omega (arith, length-drop n m)
+  judged-left (refused x) l = refl
+
+  limited-left : (b : Bool) → withinLimits (scoreOf (extendedOf f)) ≡ b → longestScore ≤ length m → left (pick b (judged (unfoldedFile f) (checked (unfoldedFile f))) OverLimit) ≡ length m
+  unfolding pick roomLeft
+  limited-left true e l = judged-left (checked (unfoldedFile f)) (omega (arith, made-short f e))
+  limited-left false e l = refl
+
+  answered-left : (v : Check ℕ) → longestScore ≤ length m → left (answered f v) ≡ length m
+  unfolding answered roomLeft
+  answered-left fine l = limited-left (withinLimits (scoreOf (extendedOf f))) refl l
+  answered-left (refused place) l = refl
+
+  -- The room keeps its length, whatever is answered.
+  pub room-length : length (roomLeft (unfoldAnswer (length m) f) (unfoldedFile f) m) ≡ length m
+  unfolding unfoldAnswer pick roomLeft
+  room-length = go (leb longestScore (length m)) refl
+    where
+      go : (b : Bool) → leb longestScore (length m) ≡ b → left (pick b (answered f (extendedRight f)) NoRoom) ≡ length m
+      go true e = answered-left (extendedRight f) (leb-true longestScore (length m) e)
+      go false e = refl
