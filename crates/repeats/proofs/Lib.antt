@@ -4,3 +4,4 @@ pub mod TopSequences
 pub mod LoopRuns
 pub mod LooseDates
 pub mod Performed
+pub mod Unfoldings

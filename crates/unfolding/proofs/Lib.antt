@@ -13,3 +13,4 @@ pub mod PlainFiles
 pub mod PlainNesting
 pub mod PlainScores
 pub mod Examples
+pub mod GrantedLaws
