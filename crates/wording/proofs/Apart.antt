@@ -2,7 +2,7 @@
 -- Assumes nothing.
 use mathlib.Core.Path.{_≡_, refl, sym, ap, _∙_}
 use mathlib.Core.List.{List, [], _∷_, map}
-use Prim.Native.Nat.{ℕ, suc}
+use Prim.Native.Nat.{ℕ, zero, suc}
 use Rattle.base.specs.Tests.{pick}
 use Rattle.ascii.specs.Words.{begins}
 use Rattle.contents.specs.declared.Fault.{Fault}
@@ -11,9 +11,10 @@ use Rattle.session.specs.declared.Refusal.{Refusal}
 use Rattle.session.specs.declared.Refusal.the-variants.{MemoryShort, RoomShort, File, BadTempo, NoSession, NoEvent, NotAfter, BadMillis, ClockFull}
 use Rattle.text.specs.declared.Transcript.{Transcript}
 use Rattle.text.specs.declared.Transcript.the-variants.{Made, NoRoom, BadText, BadFile}
+use Rattle.unfolding.specs.declared.Unfolding.the-variants as unfolds
 use Rattle.wording.specs.declared.Row.{Row}
-use Rattle.wording.specs.declared.Row.the-variants.{Call, Text}
-use Rattle.wording.specs.Words.{faultWords, refusalWords, transcriptWords, doneWords, rowWords, replyRows}
+use Rattle.wording.specs.declared.Row.the-variants.{Call, Text, Unfold}
+use Rattle.wording.specs.Words.{faultWords, refusalWords, transcriptWords, extendedWords, unfoldingWords, doneWords, rowWords, replyRows}
 
 -- ---- the rows, in the table's order: 0 is "done"
 
@@ -45,6 +46,12 @@ rowAt (Text (Made n)) = 0
 rowAt (Text NoRoom) = 3
 rowAt (Text (BadText l c)) = 19
 rowAt (Text (BadFile x)) = faultRowAt x
+rowAt (Unfold (unfolds.Made n)) = 0
+rowAt (Unfold unfolds.NoRoom) = 3
+rowAt (Unfold (unfolds.BadExtended zero)) = 20
+rowAt (Unfold (unfolds.BadExtended (suc place))) = 21
+rowAt (Unfold unfolds.OverLimit) = 22
+rowAt (Unfold (unfolds.BadFile x)) = faultRowAt x
 
 -- ---- looked up
 
@@ -57,7 +64,7 @@ unfoldable lookedUp : List ℕ → ℕ
 lookedUp bytes = foundAt (doneWords ∷ map rowWords replyRows) bytes
 
 fault-found : (x : Fault) → lookedUp (faultWords x) ≡ faultRowAt x
-unfolding lookedUp foundAt replyRows rowWords faultRowAt refusalWords transcriptWords faultWords begins pick
+unfolding lookedUp foundAt replyRows rowWords faultRowAt refusalWords transcriptWords extendedWords unfoldingWords faultWords begins pick
 fault-found FileShort = refl
 fault-found (BadCount at) = refl
 fault-found (BadOffset at) = refl
@@ -69,7 +76,7 @@ fault-found TextLeft = refl
 fault-found NoMessage = refl
 
 refusal-found : (x : Refusal) → lookedUp (refusalWords x) ≡ refusalRowAt x
-unfolding lookedUp foundAt replyRows rowWords refusalRowAt refusalWords transcriptWords faultWords begins pick
+unfolding lookedUp foundAt replyRows rowWords refusalRowAt refusalWords transcriptWords extendedWords unfoldingWords faultWords begins pick
 refusal-found MemoryShort = refl
 refusal-found RoomShort = refl
 refusal-found (File x) = fault-found x
@@ -81,12 +88,18 @@ refusal-found BadMillis = refl
 refusal-found ClockFull = refl
 
 words-found : (x : Row) → lookedUp (rowWords x) ≡ rowAt x
-unfolding lookedUp foundAt replyRows rowWords rowAt refusalWords transcriptWords faultWords begins pick
+unfolding lookedUp foundAt replyRows rowWords rowAt refusalWords transcriptWords extendedWords unfoldingWords faultWords begins pick
 words-found (Call x) = refusal-found x
 words-found (Text (Made n)) = refl
 words-found (Text NoRoom) = refl
 words-found (Text (BadText l c)) = refl
 words-found (Text (BadFile x)) = fault-found x
+words-found (Unfold (unfolds.Made n)) = refl
+words-found (Unfold unfolds.NoRoom) = refl
+words-found (Unfold (unfolds.BadExtended zero)) = refl
+words-found (Unfold (unfolds.BadExtended (suc place))) = refl
+words-found (Unfold unfolds.OverLimit) = refl
+words-found (Unfold (unfolds.BadFile x)) = fault-found x
 
 pub words-apart : (x y : Row) → rowWords x ≡ rowWords y → rowAt x ≡ rowAt y
 words-apart x y e = sym (words-found x) ∙ ap lookedUp e ∙ words-found y

@@ -1,8 +1,8 @@
--- No reply of any call, and none of a text, is without a row in the reply table: its row stands there, with its number and its words. And the numbers of the rows are those of document 01's table and of document 02.
+-- No reply of any call, none of a text and none of an extended score is without a row in the reply table: its row stands there, with its number and its words. And the numbers of the rows are those of document 01's table and of document 02.
 -- Assumes nothing.
 use mathlib.Core.Path.{_≡_, refl}
 use mathlib.Core.List.{List, [], _∷_, map}
-use Prim.Native.Nat.{ℕ, _<_}
+use Prim.Native.Nat.{ℕ, zero, suc, _<_}
 use native.Mathlib.Omega.{arith}
 use lib.ListN.{length, getD}
 use Rattle.contents.specs.Replies.{faultRow}
@@ -14,9 +14,11 @@ use Rattle.session.specs.declared.Refusal.the-variants.{MemoryShort, RoomShort,
 use Rattle.text.specs.declared.Transcript.{Transcript}
 use Rattle.text.specs.declared.Transcript.the-variants.{Made, NoRoom, BadText, BadFile}
 use Rattle.text.specs.Replies.{transcriptRow}
+use Rattle.unfolding.specs.declared.Unfolding.the-variants as unfolds
+use Rattle.unfolding.specs.Replies.{unfoldRow}
 use Rattle.wording.specs.declared.Row.{Row}
-use Rattle.wording.specs.declared.Row.the-variants.{Call, Text}
-use Rattle.wording.specs.Words.{faultWords, refusalWords, transcriptWords, rowNumber, rowWords, replyRows, rowCount, doneNumber}
+use Rattle.wording.specs.declared.Row.the-variants.{Call, Text, Unfold}
+use Rattle.wording.specs.Words.{faultWords, refusalWords, transcriptWords, extendedWords, unfoldingWords, rowNumber, rowWords, replyRows, rowCount, doneNumber}
 use Rattle.wording.proofs.Apart.{faultRowAt, refusalRowAt, rowAt}
 
 -- ---- every reply has its row
@@ -34,7 +36,7 @@ pub record Listed (x : Row) : Type 0 where
   pub words : rowWords (listedRow x) ≡ rowWords x
 
 fault-listed : (x : Fault) → Listed (Call (File x))
-unfolding listedRow rowAt refusalRowAt faultRowAt allRows replyRows rowNumber refusalRow transcriptRow faultRow rowWords refusalWords transcriptWords faultWords
+unfolding listedRow rowAt refusalRowAt faultRowAt allRows replyRows rowNumber refusalRow transcriptRow unfoldRow faultRow rowWords refusalWords transcriptWords extendedWords unfoldingWords faultWords
 fault-listed FileShort = record { within = omega arith; number = refl; words = refl }
 fault-listed (BadCount at) = record { within = omega arith; number = refl; words = refl }
 fault-listed (BadOffset at) = record { within = omega arith; number = refl; words = refl }
@@ -47,7 +49,7 @@ fault-listed NoMessage = record { within = omega arith; number = refl; words = r
 
 -- a text's file is refused as the file is
 file-listed : (x : Fault) → Listed (Text (BadFile x))
-unfolding listedRow rowAt refusalRowAt faultRowAt allRows replyRows rowNumber refusalRow transcriptRow faultRow rowWords refusalWords transcriptWords faultWords
+unfolding listedRow rowAt refusalRowAt faultRowAt allRows replyRows rowNumber refusalRow transcriptRow unfoldRow faultRow rowWords refusalWords transcriptWords extendedWords unfoldingWords faultWords
 file-listed FileShort = record { within = omega arith; number = refl; words = refl }
 file-listed (BadCount at) = record { within = omega arith; number = refl; words = refl }
 file-listed (BadOffset at) = record { within = omega arith; number = refl; words = refl }
@@ -58,8 +60,21 @@ file-listed (BadMessage at) = record { within = omega arith; number = refl; word
 file-listed TextLeft = record { within = omega arith; number = refl; words = refl }
 file-listed NoMessage = record { within = omega arith; number = refl; words = refl }
 
+-- and so is an unfolded one
+unfolded-listed : (x : Fault) → Listed (Unfold (unfolds.BadFile x))
+unfolding listedRow rowAt refusalRowAt faultRowAt allRows replyRows rowNumber refusalRow transcriptRow unfoldRow faultRow rowWords refusalWords transcriptWords extendedWords unfoldingWords faultWords
+unfolded-listed FileShort = record { within = omega arith; number = refl; words = refl }
+unfolded-listed (BadCount at) = record { within = omega arith; number = refl; words = refl }
+unfolded-listed (BadOffset at) = record { within = omega arith; number = refl; words = refl }
+unfolded-listed BadLength = record { within = omega arith; number = refl; words = refl }
+unfolded-listed (BadEvent at) = record { within = omega arith; number = refl; words = refl }
+unfolded-listed (BadItem at) = record { within = omega arith; number = refl; words = refl }
+unfolded-listed (BadMessage at) = record { within = omega arith; number = refl; words = refl }
+unfolded-listed TextLeft = record { within = omega arith; number = refl; words = refl }
+unfolded-listed NoMessage = record { within = omega arith; number = refl; words = refl }
+
 refusal-listed : (x : Refusal) → Listed (Call x)
-unfolding listedRow rowAt refusalRowAt faultRowAt allRows replyRows rowNumber refusalRow transcriptRow faultRow rowWords refusalWords transcriptWords faultWords
+unfolding listedRow rowAt refusalRowAt faultRowAt allRows replyRows rowNumber refusalRow transcriptRow unfoldRow faultRow rowWords refusalWords transcriptWords extendedWords unfoldingWords faultWords
 refusal-listed MemoryShort = record { within = omega arith; number = refl; words = refl }
 refusal-listed RoomShort = record { within = omega arith; number = refl; words = refl }
 refusal-listed (File x) = fault-listed x
@@ -71,12 +86,18 @@ refusal-listed BadMillis = record { within = omega arith; number = refl; words =
 refusal-listed ClockFull = record { within = omega arith; number = refl; words = refl }
 
 pub every-row : (x : Row) → Listed x
-unfolding listedRow rowAt refusalRowAt faultRowAt allRows replyRows rowNumber refusalRow transcriptRow faultRow rowWords refusalWords transcriptWords faultWords
+unfolding listedRow rowAt refusalRowAt faultRowAt allRows replyRows rowNumber refusalRow transcriptRow unfoldRow faultRow rowWords refusalWords transcriptWords extendedWords unfoldingWords faultWords
 every-row (Call x) = refusal-listed x
 every-row (Text (Made n)) = record { within = omega arith; number = refl; words = refl }
 every-row (Text NoRoom) = record { within = omega arith; number = refl; words = refl }
 every-row (Text (BadText l c)) = record { within = omega arith; number = refl; words = refl }
 every-row (Text (BadFile x)) = file-listed x
+every-row (Unfold (unfolds.Made n)) = record { within = omega arith; number = refl; words = refl }
+every-row (Unfold unfolds.NoRoom) = record { within = omega arith; number = refl; words = refl }
+every-row (Unfold (unfolds.BadExtended zero)) = record { within = omega arith; number = refl; words = refl }
+every-row (Unfold (unfolds.BadExtended (suc place))) = record { within = omega arith; number = refl; words = refl }
+every-row (Unfold unfolds.OverLimit) = record { within = omega arith; number = refl; words = refl }
+every-row (Unfold (unfolds.BadFile x)) = unfolded-listed x
 
 -- ---- the numbers
 
@@ -84,7 +105,7 @@ pub rows-counted : length replyRows ≡ rowCount
 unfolding replyRows
 rows-counted = refl
 
--- 2, 5 and 8 have two rows each
-pub every-number : doneNumber ∷ map rowNumber replyRows ≡ 0 ∷ 1 ∷ 2 ∷ 2 ∷ 3 ∷ 4 ∷ 5 ∷ 5 ∷ 6 ∷ 7 ∷ 8 ∷ 8 ∷ 9 ∷ 10 ∷ 11 ∷ 12 ∷ 13 ∷ 14 ∷ 15 ∷ 16 ∷ []
-unfolding replyRows rowNumber refusalRow transcriptRow faultRow
+-- 2, 5, 8 and 17 have two rows each
+pub every-number : doneNumber ∷ map rowNumber replyRows ≡ 0 ∷ 1 ∷ 2 ∷ 2 ∷ 3 ∷ 4 ∷ 5 ∷ 5 ∷ 6 ∷ 7 ∷ 8 ∷ 8 ∷ 9 ∷ 10 ∷ 11 ∷ 12 ∷ 13 ∷ 14 ∷ 15 ∷ 16 ∷ 17 ∷ 17 ∷ 18 ∷ []
+unfolding replyRows rowNumber refusalRow transcriptRow unfoldRow faultRow
 every-number = refl

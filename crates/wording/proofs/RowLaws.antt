@@ -20,9 +20,12 @@ use Rattle.session.specs.Replies.{refusalRow}
 use Rattle.text.specs.declared.Transcript.{Transcript}
 use Rattle.text.specs.declared.TextReply.{TextReply}
 use Rattle.text.specs.Replies.{transcriptRow}
+use Rattle.unfolding.specs.declared.Unfolding.{Unfolding}
+use Rattle.unfolding.specs.declared.UnfoldReply.{UnfoldReply}
+use Rattle.unfolding.specs.Replies.{unfoldRow}
 use Rattle.wording.specs.declared.Row.{Row}
-use Rattle.wording.specs.declared.Row.the-variants.{Call, Text}
-use Rattle.wording.specs.Words.{refusalWords, transcriptWords, mostWords, rowNumber, rowWords, replyRows, rowCount, firstRow, doneNumber, doneWords, replyLine, rowRoom, rowLines, replyLines}
+use Rattle.wording.specs.declared.Row.the-variants.{Call, Text, Unfold}
+use Rattle.wording.specs.Words.{refusalWords, transcriptWords, unfoldingWords, mostWords, rowNumber, rowWords, replyRows, rowCount, firstRow, doneNumber, doneWords, replyLine, rowRoom, rowLines, replyLines}
 
 -- ---- which row
 
@@ -44,6 +47,10 @@ module _ (x : Row) where
   unfolding rowNumber
   number-text t r e p = rw (e, p)
 
+  pub number-unfold : (u : Unfolding) (r : UnfoldReply) → x ≡ Unfold u → r ≡ unfoldRow u → r .number ≡ rowNumber x
+  unfolding rowNumber
+  number-unfold u r e p = rw (e, p)
+
   module _ (o m : List ℕ) (at r : ℕ) where
     pub words-call : (c : Refusal) → x ≡ Call c → Laid o at (refusalWords c) m r → Laid o at (rowWords x) m r
     unfolding rowWords
@@ -53,7 +60,11 @@ module _ (x : Row) where
     unfolding rowWords
     words-text t e l = rw e l
 
-pub ruleset kinds = (number-call, number-text, words-call, words-text, needs)
+    pub words-unfold : (u : Unfolding) → x ≡ Unfold u → Laid o at (unfoldingWords u) m r → Laid o at (rowWords x) m r
+    unfolding rowWords
+    words-unfold u e l = rw e l
+
+pub ruleset kinds = (number-call, number-text, number-unfold, words-call, words-text, words-unfold, needs)
 
 -- ---- one line
 

@@ -1,12 +1,13 @@
 -- Every row of the reply table has words, and none has more bytes than there is room for.
 -- Assumes nothing.
-use mathlib.Core.Path.{_≡_}
+use mathlib.Core.Path.{_≡_, refl}
 use mathlib.Core.Bool.{Bool}
 use mathlib.Core.List.{List}
-use Prim.Native.Nat.{ℕ, _+_, _<_, _≤_}
+use Prim.Native.Nat.{ℕ, zero, suc, _+_, _<_, _≤_}
 use native.Mathlib.Omega.{arith}
 use lib.ListN.{length}
 use borrow.Author.Needs.{needs}
+use Rattle.ascii.specs.Text.{bytesOf}
 use Rattle.ascii.specs.Laying.{Laid}
 use Rattle.contents.specs.declared.Fault.{Fault}
 use Rattle.contents.specs.declared.Fault.the-variants.{FileShort, BadCount, BadOffset, BadLength, BadEvent, BadItem, BadMessage, TextLeft, NoMessage}
@@ -14,7 +15,9 @@ use Rattle.session.specs.declared.Refusal.{Refusal}
 use Rattle.session.specs.declared.Refusal.the-variants.{MemoryShort, RoomShort, File, BadTempo, NoSession, NoEvent, NotAfter, BadMillis, ClockFull}
 use Rattle.text.specs.declared.Transcript.{Transcript}
 use Rattle.text.specs.declared.Transcript.the-variants.{Made, NoRoom, BadText, BadFile}
-use Rattle.wording.specs.Words.{faultWords, refusalWords, transcriptWords, mostWords, faultPlaced, placed}
+use Rattle.unfolding.specs.declared.Unfolding.{Unfolding}
+use Rattle.unfolding.specs.declared.Unfolding.the-variants as unfolds
+use Rattle.wording.specs.Words.{faultWords, refusalWords, transcriptWords, extendedWords, unfoldingWords, doneWords, mostWords, faultPlaced, placed}
 
 -- ---- how many bytes the words have
 
@@ -74,6 +77,39 @@ transcript-file o m at r t f e laid = rw e laid
 pub words-file : (o m : List ℕ) (at r : ℕ) (x : Refusal) (f : Fault) → x ≡ File f → Laid o at (faultWords f) m r → Laid o at (refusalWords x) m r
 unfolding refusalWords
 words-file o m at r x f e laid = rw e laid
+
+module _ (o m : List ℕ) (at r : ℕ) where
+  pub extended-contents : (place : ℕ) → place ≡ 0 → Laid o at (bytesOf "bad extended contents; also points left over") m r → Laid o at (extendedWords place) m r
+  unfolding extendedWords
+  extended-contents place e laid = rw e laid
+
+  pub extended-item : (place : ℕ) → (place ≡ 0 → ⊥) → Laid o at (bytesOf "an item that can't be unfolded") m r → Laid o at (extendedWords place) m r
+  unfolding extendedWords
+  extended-item zero n laid = absurd (n refl)
+  extended-item (suc place) n laid = laid
+
+  module _ (u : Unfolding) where
+    pub unfold-done : (n : ℕ) → u ≡ unfolds.Made n → Laid o at doneWords m r → Laid o at (unfoldingWords u) m r
+    unfolding unfoldingWords
+    unfold-done n e laid = rw e laid
+
+    pub unfold-room : u ≡ unfolds.NoRoom → Laid o at (transcriptWords NoRoom) m r → Laid o at (unfoldingWords u) m r
+    unfolding unfoldingWords
+    unfold-room e laid = rw e laid
+
+    pub unfold-extended : (place : ℕ) → u ≡ unfolds.BadExtended place → Laid o at (extendedWords place) m r → Laid o at (unfoldingWords u) m r
+    unfolding unfoldingWords
+    unfold-extended place e laid = rw e laid
+
+    pub unfold-limit : u ≡ unfolds.OverLimit → Laid o at (bytesOf "the unfolded score would break a limit") m r → Laid o at (unfoldingWords u) m r
+    unfolding unfoldingWords
+    unfold-limit e laid = rw e laid
+
+    pub unfold-file : (x : Fault) → u ≡ unfolds.BadFile x → Laid o at (faultWords x) m r → Laid o at (unfoldingWords u) m r
+    unfolding unfoldingWords
+    unfold-file x e laid = rw e laid
+
+pub ruleset unfolding-rows = (extended-contents, extended-item, unfold-done, unfold-room, unfold-extended, unfold-limit, unfold-file, needs)
 
 pub fault-placed-case : (x y : Fault) (r : Bool) → x ≡ y → r ≡ faultPlaced y → r ≡ faultPlaced x
 fault-placed-case x y r e p = rw e p

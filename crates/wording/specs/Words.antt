@@ -1,5 +1,5 @@
 -- The reply table for people, row by row, and the whole of it.
-use Prim.Native.Nat.{ℕ}
+use Prim.Native.Nat.{ℕ, zero, suc}
 use mathlib.Core.Bool.{Bool, true, false}
 use mathlib.Core.List.{List, [], _∷_, _++_}
 use Rattle.ascii.specs.Words.{space, newline}
@@ -12,8 +12,11 @@ use Rattle.session.specs.Replies.{refusalRow}
 use Rattle.text.specs.declared.Transcript.{Transcript}
 use Rattle.text.specs.declared.Transcript.the-variants.{Made, NoRoom, BadText, BadFile}
 use Rattle.text.specs.Replies.{transcriptRow}
+use Rattle.unfolding.specs.declared.Unfolding.{Unfolding}
+use Rattle.unfolding.specs.declared.Unfolding.the-variants as unfolds
+use Rattle.unfolding.specs.Replies.{unfoldRow}
 use Rattle.wording.specs.declared.Row.{Row}
-use Rattle.wording.specs.declared.Row.the-variants.{Call, Text}
+use Rattle.wording.specs.declared.Row.the-variants.{Call, Text, Unfold}
 use Rattle.ascii.specs.Text.{bytesOf}
 
 -- The words of its column 'When', letter for letter.
@@ -53,6 +56,19 @@ transcriptWords NoRoom = bytesOf "file room under 52,256 bytes, text room too sh
 transcriptWords (BadText l c) = bytesOf "text against the grammar"
 transcriptWords (BadFile x) = faultWords x
 
+-- "17 for bad contents (place 0) or a bad loop or curve (its first byte)": a group or an action may be at fault as well. Points left over have place 0, too.
+unfoldable pub extendedWords : (place : ℕ) → List ℕ
+extendedWords zero = bytesOf "bad extended contents; also points left over"
+extendedWords (suc place) = bytesOf "an item that can't be unfolded"
+
+-- What comes of an extended score that is unfolded. "2 for a file room as in (i)", "18 (place 0) when the unfolded file would break a limit"
+unfoldable pub unfoldingWords : Unfolding → List ℕ
+unfoldingWords (unfolds.Made n) = doneWords
+unfoldingWords unfolds.NoRoom = transcriptWords NoRoom
+unfoldingWords (unfolds.BadExtended place) = extendedWords place
+unfoldingWords unfolds.OverLimit = bytesOf "the unfolded score would break a limit"
+unfoldingWords (unfolds.BadFile x) = faultWords x
+
 -- The longest of them are the item's.
 abbrev pub mostWords : ℕ
 mostWords = 50
@@ -84,10 +100,12 @@ placed ClockFull = false
 unfoldable pub rowNumber : Row → ℕ
 rowNumber (Call x) = refusalRow x .number
 rowNumber (Text t) = transcriptRow t .number
+rowNumber (Unfold u) = unfoldRow u .number
 
 unfoldable pub rowWords : Row → List ℕ
 rowWords (Call x) = refusalWords x
 rowWords (Text t) = transcriptWords t
+rowWords (Unfold u) = unfoldingWords u
 
 -- Every row of the table in its order, behind the first; where a row's place is a number, any stands for it.
 unfoldable pub replyRows : List Row
@@ -111,11 +129,14 @@ replyRows =
     ∷ Call ClockFull
     ∷ Call (File NoMessage)
     ∷ Text (BadText 1 1)
+    ∷ Unfold (unfolds.BadExtended 0)
+    ∷ Unfold (unfolds.BadExtended 40)
+    ∷ Unfold unfolds.OverLimit
     ∷ []
 
 -- How many they are, and the first of them.
 abbrev pub rowCount : ℕ
-rowCount = 19
+rowCount = 22
 
 abbrev pub firstRow : Row
 firstRow = Call MemoryShort

@@ -5,15 +5,18 @@ pub use replies::reply_lines;
 use session::Refusal;
 pub use table::placed;
 pub use table::put_text_words;
+pub use table::put_unfold_words;
 pub use table::put_words;
 use text::Transcript;
+use unfolding::Unfolding;
 
 mod figures;
 mod replies;
 mod table;
 
-// A row of the reply table: of a call, or of a text that is read or written.
+// A row of the reply table: of a call, of a text that is read or written, or of an extended score that is unfolded.
 pub enum Row {
     Call(Refusal),
     Text(Transcript),
+    Unfold(Unfolding),
 }

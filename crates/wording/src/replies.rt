@@ -7,6 +7,7 @@ ghost use Rattle.wording.specs.Words.{rowNumber, rowWords, replyRows, ro
 use crate::Row;
 use crate::figures::put_figure;
 use crate::table::put_text_words;
+use crate::table::put_unfold_words;
 use crate::table::put_words;
 use ascii::NEWLINE;
 use ascii::SPACE;
@@ -17,8 +18,10 @@ use session::Refusal;
 use session::refusal_row;
 use text::Transcript;
 use text::replied_text;
+use unfolding::Unfolding;
+use unfolding::replied_unfolding;
 
-const ROWS: usize = 19;
+const ROWS: usize = 22;
 
 // The i-th row; behind the last, the first stands for it.
 fn row_at(i: usize) -> Row
@@ -44,6 +47,9 @@ fn row_at(i: usize) -> Row
         16 => Row::Call(Refusal::ClockFull),
         17 => Row::Call(Refusal::File(Fault::NoMessage)),
         18 => Row::Text(Transcript::BadText { line: 1, column: 1 }),
+        19 => Row::Unfold(Unfolding::BadExtended { place: 0 }),
+        20 => Row::Unfold(Unfolding::BadExtended { place: 40 }),
+        21 => Row::Unfold(Unfolding::OverLimit),
         _ => Row::Call(Refusal::MemoryShort),
     }
 }
@@ -55,6 +61,7 @@ fn row_number(x: Row) -> usize
     match x {
         Row::Call(c) => refusal_row(c).number,
         Row::Text(t) => replied_text(t).number,
+        Row::Unfold(u) => replied_unfolding(u).number,
     }
 }
 
@@ -65,6 +72,7 @@ fn put_row_words(out: &mut [u8], at: usize, x: Row) -> usize
     match x {
         Row::Call(c) => put_words(out, at, c),
         Row::Text(t) => put_text_words(out, at, t),
+        Row::Unfold(u) => put_unfold_words(out, at, u),
     }
 }
 

@@ -3,11 +3,12 @@ ghost use mathlib.Core.Path.{_≡_};
 ghost use Prim.Native.Nat.{_+_, _≤_};
 ghost use lib.ListN.{length};
 ghost use Rattle.ascii.specs.Laying.{Laid};
-ghost use Rattle.wording.specs.Words.{faultWords, refusalWords, transcriptWords, mostWords, faultPlaced, placed};
+ghost use Rattle.wording.specs.Words.{faultWords, refusalWords, transcriptWords, extendedWords, unfoldingWords, mostWords, faultPlaced, placed};
 use ascii::put_bytes;
 use contents::Fault;
 use session::Refusal;
 use text::Transcript;
+use unfolding::Unfolding;
 
 // The words of a fault behind the first `at` bytes. Answers where the next byte goes.
 fn put_fault_words(out: &mut [u8], at: usize, x: Fault) -> usize
@@ -67,6 +68,31 @@ pub fn put_text_words(out: &mut [u8], at: usize, t: Transcript) -> usize
             b"text against the grammar",
         ),
         Transcript::BadFile { fault } => put_fault_words(out, at, fault),
+    }
+}
+
+// The words of an extended score that can't be unfolded, by its place: that of the contents is 0.
+fn put_extended_words(out: &mut [u8], at: usize, place: usize) -> usize
+    requires { ⌜ at + mostWords ≤ length (now out) ⌝ }
+    ensures { λ r. ⌜ Laid (now (out .entry)) at (extendedWords place) (now (out .exit)) r × (r ≤ at + mostWords) ⌝ }
+{
+    if place == 0 {
+        return put_bytes(out, at, b"bad extended contents; also points left over");
+    }
+    put_bytes(out, at, b"an item that can't be unfolded")
+}
+
+// The same for what comes of an extended score.
+pub fn put_unfold_words(out: &mut [u8], at: usize, u: Unfolding) -> usize
+    requires { ⌜ at + mostWords ≤ length (now out) ⌝ }
+    ensures { λ r. ⌜ Laid (now (out .entry)) at (unfoldingWords u) (now (out .exit)) r × (r ≤ at + mostWords) ⌝ }
+{
+    match u {
+        Unfolding::Made { size: _ } => put_bytes(out, at, b"done"),
+        Unfolding::NoRoom => put_text_words(out, at, Transcript::NoRoom),
+        Unfolding::BadExtended { place } => put_extended_words(out, at, place),
+        Unfolding::OverLimit => put_bytes(out, at, b"the unfolded score would break a limit"),
+        Unfolding::BadFile { fault } => put_fault_words(out, at, fault),
     }
 }
 

@@ -7,7 +7,7 @@ use Rattle.wording.proofs.RowLaws.{row-case, row-beyond}
 use Rattle.wording.proofs.replies.row_at.Statement.{statement}
 use Rattle.wording.proofs.replies.row_at.Tie as tie
 
-beyond : tie.Need-returns-20
+beyond : tie.Need-returns-23
 beyond c = row-beyond _ (none-of rowCount _ (c .match .rest))
 
 pub row-at-spec : {M : Type 1} → statement M
@@ -34,4 +34,7 @@ row-at-spec =
     (λ c. row-case _ 16 _ (c .match .keys17) refl)
     (λ c. row-case _ 17 _ (c .match .keys18) refl)
     (λ c. row-case _ 18 _ (c .match .keys19) refl)
+    (λ c. row-case _ 19 _ (c .match .keys20) refl)
+    (λ c. row-case _ 20 _ (c .match .keys21) refl)
+    (λ c. row-case _ 21 _ (c .match .keys22) refl)
     beyond)

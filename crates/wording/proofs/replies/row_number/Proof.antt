@@ -13,4 +13,7 @@ row-number-spec =
     (λ c. search kinds)
     (λ c κs. search kinds)
     (λ c. search kinds)
+    (λ c κs. search kinds)
+    (λ c. search kinds)
+    (λ c. search kinds)
     (λ c. search kinds))
