@@ -4,3 +4,4 @@ pub mod LineLaws
 pub mod NameLaws
 pub mod Examples
 pub mod TextLaws
+pub mod UnfoldLaws

@@ -2,3 +2,4 @@
 pub mod Entries
 pub mod Line
 pub mod Texts
+pub mod Unfolds

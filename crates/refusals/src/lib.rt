@@ -5,7 +5,10 @@ pub use line::refusal_line;
 pub use texts::misread_line;
 pub use texts::room_line;
 pub use texts::unmade_line;
+pub use unfolds::folded_entry;
+pub use unfolds::folded_line;
 
 mod entries;
 mod line;
 mod texts;
+mod unfolds;
