@@ -12,10 +12,11 @@ pub help-told : helpText
     ++ (bytesOf "  play FILE COMMANDS            plays a score by commands, and prints what the electronics are sent\n"
     ++ (bytesOf "  read TEXT FILE                reads a score that is written as text, and makes its file\n"
     ++ (bytesOf "  write FILE TEXT               writes a score as text, to be read, corrected and sent back\n"
+    ++ (bytesOf "  unfold EXTENDED FILE          unfolds the loops and curves of an extended score, and makes its file\n"
     ++ (bytesOf "  replies                       lists the reply numbers with their words\n"
     ++ (bytesOf "  help                          lists the commands\n\n"
     ++ (bytesOf "A name of a file may be - for standard input, or for standard output where one is written. Before a name that begins with a dash write --\n"
     ++ (bytesOf "Status: 0 done, 1 refused, 2 wrong usage, or something can't be read or written\n"
-    ++ bytesOf "docs/POOLMIRROR.md says more, and docs/PLAY.md which commands play reads.\n"))))))))
+    ++ bytesOf "docs/POOLMIRROR.md says more, and docs/PLAY.md which commands play reads.\n")))))))))
 unfolding rowOf commands padded commandLine commandLines helpHead helpEnd helpText
 help-told = refl

@@ -10,7 +10,7 @@ use Rattle.base.specs.Tests.{pick, every}
 use Rattle.ascii.specs.Words.{begins, same}
 use Rattle.ascii.proofs.WordLaws.{same-bytes}
 use Rattle.menu.specs.declared.Command.{Command}
-use Rattle.menu.specs.declared.Command.the-variants.{Check, Play, Read, Write, Replies, Help}
+use Rattle.menu.specs.declared.Command.the-variants.{Check, Play, Read, Write, Unfold, Replies, Help}
 use Rattle.menu.specs.declared.table.Lookup.the-variants.{Known}
 use Rattle.menu.specs.Table.{rowOf, commands, count, usageWidth, namedIn, commandNamed}
 
@@ -22,6 +22,7 @@ name-found Check = refl
 name-found Play = refl
 name-found Read = refl
 name-found Write = refl
+name-found Unfold = refl
 name-found Replies = refl
 name-found Help = refl
 
@@ -35,6 +36,7 @@ usage-apart Check = omega arith
 usage-apart Play = omega arith
 usage-apart Read = omega arith
 usage-apart Write = omega arith
+usage-apart Unfold = omega arith
 usage-apart Replies = omega arith
 usage-apart Help = omega arith
 

@@ -13,7 +13,7 @@ use Rattle.ascii.specs.Words.{same}
 use Rattle.ascii.specs.Laying.{Laid}
 use Rattle.ascii.proofs.LayLaws.{laid-join}
 use Rattle.menu.specs.declared.Command.{Command}
-use Rattle.menu.specs.declared.Command.the-variants.{Check, Play, Read, Write, Replies, Help}
+use Rattle.menu.specs.declared.Command.the-variants.{Check, Play, Read, Write, Unfold, Replies, Help}
 use Rattle.menu.specs.declared.table.Marks.{Marks}
 use Rattle.menu.specs.declared.table.Lookup.{Lookup}
 use Rattle.menu.specs.declared.table.Lookup.the-variants.{Known, Unknown}
@@ -104,15 +104,19 @@ pub fourth-command : (i : ℕ) → i ≡ 3 → drop i commands ≡ Write ∷ dro
 unfolding commands
 fourth-command i e = rw e
 
-pub fifth-command : (i : ℕ) → i ≡ 4 → drop i commands ≡ Replies ∷ drop (i + 1) commands
+pub fifth-command : (i : ℕ) → i ≡ 4 → drop i commands ≡ Unfold ∷ drop (i + 1) commands
 unfolding commands
 fifth-command i e = rw e
 
-pub last-command : (i : ℕ) → (i ≡ 0 → ⊥) → (i ≡ 1 → ⊥) → (i ≡ 2 → ⊥) → (i ≡ 3 → ⊥) → (i ≡ 4 → ⊥) → i < count → drop i commands ≡ Help ∷ drop (i + 1) commands
+pub sixth-command : (i : ℕ) → i ≡ 5 → drop i commands ≡ Replies ∷ drop (i + 1) commands
 unfolding commands
-last-command i p q s t u l = let e : i ≡ 5 = omega arith in rw e
+sixth-command i e = rw e
 
-pub ruleset listed = (first-command, second-command, third-command, fourth-command, fifth-command, last-command, needs)
+pub last-command : (i : ℕ) → (i ≡ 0 → ⊥) → (i ≡ 1 → ⊥) → (i ≡ 2 → ⊥) → (i ≡ 3 → ⊥) → (i ≡ 4 → ⊥) → (i ≡ 5 → ⊥) → i < count → drop i commands ≡ Help ∷ drop (i + 1) commands
+unfolding commands
+last-command i p q s t u v l = let e : i ≡ 6 = omega arith in rw e
+
+pub ruleset listed = (first-command, second-command, third-command, fourth-command, fifth-command, sixth-command, last-command, needs)
 
 -- ---- looked up
 

@@ -5,7 +5,7 @@ use Rattle.base.specs.Tests.{pick}
 use Rattle.ascii.specs.Text.{bytesOf}
 use Rattle.ascii.specs.Words.{same}
 use Rattle.menu.specs.declared.Command.{Command}
-use Rattle.menu.specs.declared.Command.the-variants.{Check, Play, Read, Write, Replies, Help}
+use Rattle.menu.specs.declared.Command.the-variants.{Check, Play, Read, Write, Unfold, Replies, Help}
 use Rattle.menu.specs.declared.table.Lookup.{Lookup}
 use Rattle.menu.specs.declared.table.Lookup.the-variants.{Known, Unknown}
 
@@ -60,15 +60,24 @@ rowOf Write =
       most = 2;
       reads = 1;
     }
+rowOf Unfold =
+    record {
+      name = bytesOf "unfold";
+      usage = bytesOf "unfold EXTENDED FILE";
+      help = bytesOf "unfolds the loops and curves of an extended score, and makes its file";
+      least = 2;
+      most = 2;
+      reads = 1;
+    }
 rowOf Replies = record { name = bytesOf "replies"; usage = bytesOf "replies"; help = bytesOf "lists the reply numbers with their words"; least = 0; most = 0; reads = 0 }
 rowOf Help = record { name = bytesOf "help"; usage = bytesOf "help"; help = bytesOf "lists the commands"; least = 0; most = 0; reads = 0 }
 
 -- The order in which they are listed.
 unfoldable pub commands : List Command
-commands = Check ∷ Play ∷ Read ∷ Write ∷ Replies ∷ Help ∷ []
+commands = Check ∷ Play ∷ Read ∷ Write ∷ Unfold ∷ Replies ∷ Help ∷ []
 
 abbrev pub count : ℕ
-count = 6
+count = 7
 
 -- How wide a row's texts are at most, a usage one less, and room for all three.
 abbrev pub nameWidth : ℕ

@@ -14,6 +14,7 @@ pub enum Command {
     Play,
     Read,
     Write,
+    Unfold,
     Replies,
     Help,
 }

@@ -14,7 +14,7 @@ use ascii::same;
 pub const ROW_ROOM: usize = 136;
 
 // How many commands there are.
-pub const COUNT: usize = 6;
+pub const COUNT: usize = 7;
 
 // As many names as there may be.
 const ANY_NUMBER: usize = 18446744073709551615;
@@ -103,6 +103,15 @@ pub fn put_row(out: &mut [u8], c: Command) -> Marks
             2,
             1,
         ),
+        Command::Unfold => lay_row(
+            out,
+            b"unfold",
+            b"unfold EXTENDED FILE",
+            b"unfolds the loops and curves of an extended score, and makes its file",
+            2,
+            2,
+            1,
+        ),
         Command::Replies => lay_row(
             out,
             b"replies",
@@ -126,7 +135,8 @@ pub fn command_at(i: usize) -> Command
         1 => Command::Play,
         2 => Command::Read,
         3 => Command::Write,
-        4 => Command::Replies,
+        4 => Command::Unfold,
+        5 => Command::Replies,
         _ => Command::Help,
     }
 }

@@ -1,2 +1,3 @@
--- What is said of a text or a file, case by case.
+-- What is said of a text, a file or an extended score, case by case.
 pub mod ToldSteps
+pub mod UnfoldSteps

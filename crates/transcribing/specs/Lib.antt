@@ -1,2 +1,3 @@
--- What `read` and `write` say of a text or a file that they refuse, and how they end.
+-- What `read`, `write` and `unfold` say of what they refuse, and how they end.
 pub mod Told
+pub mod Unfolds

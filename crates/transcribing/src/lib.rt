@@ -1,4 +1,4 @@
-// What `read` and `write` say of a text or a file that they refuse, laid out on lent bytes, and how they end.
+// What `read`, `write` and `unfold` say of what they refuse, laid out on lent bytes, and how they end.
 ghost use mathlib.Core.Path.{_≡_};
 ghost use Prim.Native.Nat.{_+_, _≤_};
 ghost use lib.ListN.{length};
@@ -15,6 +15,10 @@ use script::tally_text;
 use session::Refusal;
 use streams::Ending;
 use text::Transcript;
+pub use unfolds::unfold_ending;
+pub use unfolds::unfold_line;
+
+mod unfolds;
 
 // The counts of what was tallied: none where there is a fault.
 fn counts_told(t: Tally) -> Counts

@@ -13,4 +13,5 @@ command-at-spec =
     (λ c. search listed)
     (λ c. search listed)
     (λ c. search listed)
+    (λ c. search listed)
     (λ c. search listed))
