@@ -1,6 +1,7 @@
 //! The scores of the pieces under examples/. What they say, and what is to be
 //! heard, stands beside them there.
 
+use crate::extended::{a_curve, a_loop, plain, Extended, Point};
 use crate::score::{action, group, Item, Score};
 
 /// 60 beats a minute is a tempo of 5,040.
@@ -14,8 +15,19 @@ const CAUSAL: u8 = 3;
 /// Four notes of 2, 1, 1 and 2 beats.
 const NOTES: [u32; 4] = [2 * BEAT, BEAT, BEAT, 2 * BEAT];
 
-pub fn all() -> [(&'static str, Score); 4] {
-    [("small", small()), ("cellist", cellist()), ("chamber", chamber()), ("duo", duo())]
+pub fn all() -> [(&'static str, Score); 5] {
+    [
+        ("small", small()),
+        ("cellist", cellist()),
+        ("chamber", chamber()),
+        ("duo", duo()),
+        ("sweep", sweep()),
+    ]
+}
+
+/// The extended scores, each beside the score that it unfolds to.
+pub fn extended() -> [(&'static str, Extended); 1] {
+    [("sweep", extended_sweep())]
 }
 
 /// Document 01's P2: "Events of 2, 1 and 1 beats"; "one group, delay 0, holds a
@@ -80,4 +92,58 @@ fn duo() -> Score {
         items.extend_from_slice(&chamber[note]);
     }
     Score::new(&NOTES, &items, &bytes(&[CELLO, CHAMBER].concat()))
+}
+
+const STEP: u32 = BEAT / 3;
+
+/// Two notes of 4 beats. With the first a loop of three passes, a beat each; half
+/// a beat after the second a curve from 0 down to -10 in three steps and up to 64
+/// in two.
+fn extended_sweep() -> Extended {
+    Extended {
+        events: vec![4 * BEAT, 4 * BEAT],
+        items: vec![
+            a_loop(group(1, 0, 2).words(TIGHT, LOCAL), BEAT, 3),
+            plain(action(0, 0, 0)),
+            plain(action(0, 0, 1).after(BEAT / 2)),
+            a_curve(group(2, 1, 0).after(BEAT / 2).words(LOOSE, CAUSAL), STEP, 3),
+        ],
+        labels: vec!["tick", "tock", "64"],
+        points: vec![
+            Point { value: 0, span: 3 * STEP },
+            Point { value: -10, span: 2 * STEP },
+            Point { value: 64, span: 0 },
+        ],
+    }
+}
+
+/// What it unfolds to, item by item, by hand. The loop is a group of three groups
+/// with its words. The curve's values are 0, -4 (0 + floor(-10/3)), -7 (0 +
+/// floor(-20/3)), -10, 27 (-10 + 74/2) and 64; 64 is there, the others join the
+/// list.
+fn sweep() -> Score {
+    let pass = |later| group(0, 0, 2).words(TIGHT, LOCAL).after(later);
+    let tick = || action(0, 0, 0);
+    let tock = || action(0, 0, 1).after(BEAT / 2);
+    let items = [
+        group(1, 0, 9).words(TIGHT, LOCAL),
+        pass(0),
+        tick(),
+        tock(),
+        pass(BEAT),
+        tick(),
+        tock(),
+        pass(BEAT),
+        tick(),
+        tock(),
+        group(2, 1, 6).words(LOOSE, CAUSAL).after(BEAT / 2),
+        action(0, 1, 3),
+        action(0, 1, 4).after(STEP),
+        action(0, 1, 5).after(STEP),
+        action(0, 1, 6).after(STEP),
+        action(0, 1, 7).after(STEP),
+        action(0, 1, 2).after(STEP),
+    ];
+    let labels = ["tick", "tock", "64", "0", "-4", "-7", "-10", "27"];
+    Score::new(&[4 * BEAT, 4 * BEAT], &items, &bytes(&labels))
 }

@@ -1,7 +1,8 @@
 //! Writes test vectors for the score file: `vectors DIR` makes
 //! `DIR/data/vectors.bin` and `DIR/stdout`. `vectors DIR examples` makes
-//! `DIR/NAME/score.bin` for each of the pieces under examples/, and `vectors DIR
-//! largest` makes `DIR/largest.bin` and `DIR/folded.bin`.
+//! `DIR/NAME/score.bin` for each of the pieces under examples/, with
+//! `DIR/NAME/score.ext` where it was unfolded from an extended score, and `vectors
+//! DIR largest` makes `DIR/largest.bin` and `DIR/folded.bin`.
 //!
 //! Every expected number, place and label is written down beside its vector,
 //! from the words of document 01 that are quoted there; no file is checked by
@@ -19,6 +20,7 @@ mod book;
 mod contents;
 mod events;
 mod examples;
+mod extended;
 mod folded;
 mod items;
 mod large;
@@ -51,6 +53,9 @@ fn write_examples(dir: &Path) -> std::io::Result<()> {
     for (name, score) in examples::all() {
         std::fs::create_dir_all(dir.join(name))?;
         std::fs::write(dir.join(name).join("score.bin"), score.bytes())?;
+    }
+    for (name, extended) in examples::extended() {
+        std::fs::write(dir.join(name).join("score.ext"), extended.bytes())?;
     }
     Ok(())
 }
