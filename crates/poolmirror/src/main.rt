@@ -13,12 +13,11 @@ use playing::OUTPUT_ROOM;
 use session::layout::MEMORY_SIZE;
 use session::layout::ROOM_SIZE;
 use streams::Ending;
-use text::Transcript;
 
 // More than any score has, so that a longer file is refused for its length.
 const FILE_ROOM: usize = 65536;
 
-// The longest text that is read from here, and one byte more: sixteen times what any score needs.
+// The longest text or extended score that is read from here, and one byte more: sixteen times what any score needs.
 const TEXT_ROOM: usize = 4194305;
 
 // Room for the text of any score.
@@ -79,6 +78,20 @@ fn read_named(name: &[u8], file: &mut [u8]) -> FileRead
         return disk::read_input(libc::STDIN_FILENO, file);
     }
     disk::read_file(name, file)
+}
+
+// The same of a name that is shown, where more than there is room for is told as too large.
+fn read_whole(name: &[u8], file: &mut [u8]) -> FileRead
+    ensures { λ r. ⌜ r .count ≤ length (now (file .exit)) ⌝ }
+{
+    let got = read_named(name, file);
+    if file.len() <= got.count {
+        return FileRead {
+            count: 0,
+            error: libc::EFBIG,
+        };
+    }
+    got
 }
 
 // ---- check
@@ -258,7 +271,7 @@ fn play(o: Order, score: &mut [u8], list: &mut [u8], file: &mut [u8], out: &mut 
     play_score(score, n, &list[from..listed], input, file, out)
 }
 
-// ---- read and write
+// ---- read, write and unfold
 
 // What can't be written is told.
 fn unwritten(name: &[u8], error: i32) -> Ending {
@@ -290,10 +303,9 @@ fn save_named(name: &mut [u8], n: usize, made: &[u8]) -> Ending
 }
 
 // The first bytes of the room, as many as the reply says, where it was granted.
-fn save_made(name: &mut [u8], n: usize, room: &[u8], t: Transcript) -> Ending
+fn save_made(name: &mut [u8], n: usize, room: &[u8], size: usize) -> Ending
     requires { ⌜ (n ≤ length (now name)) × (length (now name) ≡ 4096) ⌝ }
 {
-    let size = text::replied_text(t).size;
     if room.len() < size {
         return orders::ending_if(false);
     }
@@ -301,15 +313,23 @@ fn save_made(name: &mut [u8], n: usize, room: &[u8], t: Transcript) -> Ending
     save_named(name, n, &room[from..size])
 }
 
-// What is refused is said, in the first n bytes of `out`; nothing is where something was made, and that is saved.
-fn settle(out: &[u8], n: usize, made: &mut [u8], m: usize, room: &[u8], t: Transcript) -> Ending
+// What is refused is said, in the first n bytes of `out`, and has its ending; nothing is where something was made, and that is saved.
+fn settle(
+    out: &[u8],
+    n: usize,
+    ended: Ending,
+    made: &mut [u8],
+    m: usize,
+    room: &[u8],
+    size: usize,
+) -> Ending
     requires { ⌜ (m ≤ length (now made)) × (length (now made) ≡ 4096) ⌝ }
 {
     if 0 < n {
         streams::say_first(out, n);
-        return transcribing::ending_of(t);
+        return ended;
     }
-    save_made(made, m, room, t)
+    save_made(made, m, room, size)
 }
 
 fn read_score(name: &[u8], text: &[u8], made: &mut [u8], m: usize, out: &mut [u8]) -> Ending
@@ -318,10 +338,12 @@ fn read_score(name: &[u8], text: &[u8], made: &mut [u8], m: usize, out: &mut [u8
     let mut room = [0u8; FILE_ROOM];
     let t = reader::read_text(text, &mut room);
     let n = transcribing::read_line(out, name, text, t);
-    settle(out, n, made, m, &room, t)
+    let ended = transcribing::ending_of(t);
+    let size = text::replied_text(t).size;
+    settle(out, n, ended, made, m, &room, size)
 }
 
-// The text is read whole before anything is written. One that fills the room is longer than there is room for.
+// The text is read whole before anything is written.
 fn read_named_text(
     o: Order,
     name: &mut [u8],
@@ -335,15 +357,12 @@ fn read_named_text(
     let names = o.names;
     let n = read_argument(names.first, name);
     let m = read_argument(names.second, made);
-    let got = read_named(&name[from..n], text);
+    let got = read_whole(&name[from..n], text);
     let shown = orders::show(name, n);
     if got.error != 0 {
         return unread(&name[from..shown], got.error);
     }
     let size = got.count;
-    if text.len() <= size {
-        return unread(&name[from..shown], libc::EFBIG);
-    }
     read_score(&name[from..shown], &text[from..size], made, m, out)
 }
 
@@ -354,7 +373,7 @@ fn read_into(o: Order, text: &mut [u8]) -> Ending {
     read_named_text(o, &mut name, &mut made, text, &mut out)
 }
 
-// `read TEXT FILE`. The text's room stands in a function of its own, and so does that of `write`: the length of so long an array is proved by a law, since to count it would be too much.
+// `read TEXT FILE`. The text's room stands in a function of its own, and so do those of `write` and `unfold`: the length of so long an array is proved by a law, since to count it would be too much.
 fn read(o: Order) -> Ending {
     let mut text = [0u8; TEXT_ROOM];
     read_into(o, &mut text)
@@ -372,7 +391,9 @@ fn write_score(
 {
     let t = writer::write_text(file, room);
     let n = transcribing::write_line(out, name, file, t);
-    settle(out, n, made, m, room, t)
+    let ended = transcribing::ending_of(t);
+    let size = text::replied_text(t).size;
+    settle(out, n, ended, made, m, room, size)
 }
 
 fn write_named_score(
@@ -410,6 +431,53 @@ fn write_into(o: Order, room: &mut [u8]) -> Ending {
 fn write(o: Order) -> Ending {
     let mut room = [0u8; WRITTEN_ROOM];
     write_into(o, &mut room)
+}
+
+fn unfold_score(name: &[u8], extended: &[u8], made: &mut [u8], m: usize, out: &mut [u8]) -> Ending
+    requires { ⌜ (length (now name) ≤ 4096) × (m ≤ length (now made)) × (length (now made) ≡ 4096) × (8192 ≤ length (now out)) ⌝ }
+{
+    let mut room = [0u8; FILE_ROOM];
+    let u = unfolder::unfold(extended, &mut room);
+    let n = transcribing::unfold_line(out, name, extended, u);
+    let ended = transcribing::unfold_ending(u);
+    let size = unfolding::replied_unfolding(u).size;
+    settle(out, n, ended, made, m, &room, size)
+}
+
+// The extended score is read whole before anything is written.
+fn unfold_named(
+    o: Order,
+    name: &mut [u8],
+    made: &mut [u8],
+    extended: &mut [u8],
+    out: &mut [u8],
+) -> Ending
+    requires { ⌜ (length (now name) ≡ 4096) × (length (now made) ≡ 4096) × (8192 ≤ length (now out)) ⌝ }
+{
+    let from = 0;
+    let names = o.names;
+    let n = read_argument(names.first, name);
+    let m = read_argument(names.second, made);
+    let got = read_whole(&name[from..n], extended);
+    let shown = orders::show(name, n);
+    if got.error != 0 {
+        return unread(&name[from..shown], got.error);
+    }
+    let size = got.count;
+    unfold_score(&name[from..shown], &extended[from..size], made, m, out)
+}
+
+fn unfold_into(o: Order, extended: &mut [u8]) -> Ending {
+    let mut name = [0u8; PATH_MAX];
+    let mut made = [0u8; PATH_MAX];
+    let mut out = [0u8; LINE_ROOM];
+    unfold_named(o, &mut name, &mut made, extended, &mut out)
+}
+
+// `unfold EXTENDED FILE`
+fn unfold(o: Order) -> Ending {
+    let mut extended = [0u8; TEXT_ROOM];
+    unfold_into(o, &mut extended)
 }
 
 // ---- words
@@ -453,6 +521,7 @@ fn carry_out(o: Order, arg: &mut [u8], out: &mut [u8]) -> Ending
         Command::Play => play(o, arg, &mut list, &mut file, out),
         Command::Read => read(o),
         Command::Write => write(o),
+        Command::Unfold => unfold(o),
         Command::Replies => replies(out),
         Command::Help => help(out),
     }
