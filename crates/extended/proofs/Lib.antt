@@ -1,2 +1,5 @@
 -- Laws of the extended score.
+pub mod ListLaws
+pub mod NestingLaws
+pub mod RightLaws
 mod ReadSteps

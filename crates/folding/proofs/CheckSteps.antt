@@ -18,7 +18,7 @@ use Rattle.extended.specs.Inner.{SmallExtent}
 use Rattle.folding.specs.declared.Folding.the-variants.{Right, Wrong}
 use Rattle.folding.specs.Answers.{foldingOf}
 use Rattle.folding.specs.Inner.{Tabled, pointsLeft, FirstWrong, FirstOverrun}
-use Rattle.folding.proofs.TableSteps.{contents-long, contents-whole}
+use Rattle.extended.proofs.RightLaws.{contents-long, contents-whole}
 use Rattle.folding.proofs.AnswerLaws.{answers-wrong, answers-right}
 use Rattle.folding.proofs.RightLaws.{extended-bad, extended-stop, extended-left, extended-used}
 

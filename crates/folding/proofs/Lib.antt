@@ -1,7 +1,5 @@
 -- Laws of an extended score that can be unfolded, for the layers above, and the steps of its check.
-pub mod PointLaws
 pub mod TakeLaws
-pub mod NestingLaws
 pub mod AnswerLaws
 pub mod RightLaws
 mod TableSteps

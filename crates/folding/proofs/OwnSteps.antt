@@ -18,7 +18,7 @@ use Rattle.extended.specs.Folds.{foldedAt}
 use Rattle.extended.specs.Points.{pointsFrom, spansRight}
 use Rattle.extended.specs.Right.{ownRight, itemOf}
 use Rattle.folding.specs.Inner.{Tabled, pointsOf, pointsLeft, FirstWrong}
-use Rattle.folding.proofs.PointLaws.{points-length, points-take}
+use Rattle.extended.proofs.ListLaws.{points-length, points-take}
 use Rattle.folding.proofs.TakeLaws.{takes-times, takes-none, takes-left, points-behind, points-next}
 
 -- ---- a curve's rules, with so many points left

@@ -3,23 +3,22 @@
 use mathlib.Core.Path.{_≡_, refl, sym, _∙_, subst}
 use mathlib.Core.Bool.{true, false}
 use mathlib.Core.List.{List, [], _∷_}
-use Prim.Native.Nat.{ℕ, zero, suc, _+_, _-_, _*_, _<_, _≤_}
+use Prim.Native.Nat.{ℕ, zero, suc, _+_, _-_, _*_, _<_}
 use native.Mathlib.Omega.{arith}
 use lib.ListN.{length}
 use borrow.Author.Tests.{eqb-true, eq-eqb, ne-eqb}
 use Rattle.base.specs.Tests.{every}
 use Rattle.base.specs.Checks.{Check, fine, refused, need, firstFault}
-use Rattle.base.proofs.TestLaws.{every-pass, every-last, every-head, every-rest}
+use Rattle.base.proofs.TestLaws.{every-pass, every-last, every-head}
 use Rattle.base.proofs.CheckLaws.{first-pass, first-stop, first-head, first-rest, first-holds, need-fine}
 use Rattle.values.specs.Curves.{Point}
 use Rattle.extended.specs.Layout.{extentOf, itemsStart, pointsStart, foldedSize, contentsRight}
 use Rattle.extended.specs.Folds.{foldedFrom}
 use Rattle.extended.specs.Points.{pointsFrom}
-use Rattle.extended.specs.Right.{ownRight, itemOf, endOf, endsWithin, foldsRight, extendedRight}
+use Rattle.extended.specs.Right.{ownRight, itemOf, endsWithin, foldsRight, extendedRight}
 use Rattle.extended.specs.Inner.{SmallExtent, Folds, all-folds, fold, Foldable}
+use Rattle.extended.proofs.RightLaws.{contents-long, contents-whole, right-contents}
 use Rattle.folding.specs.Inner.{pointsLeft}
-use Rattle.folding.proofs.TableSteps.{contents-long, contents-whole}
-use Rattle.folding.proofs.NestingLaws.{ends-table, ends-holder}
 
 first-last : {X : Type 0} (v : Check X) → v ≡ firstFault (v ∷ [])
 unfolding firstFault
@@ -100,10 +99,6 @@ module _ (f : List ℕ) where
   unfolding foldsRight
   folds-own k g ps e = every-head _ _ (first-holds _ _ _ e)
 
-  folds-ends : (k g : ℕ) (ps : List Point) → foldsRight f k ps (suc g) ≡ fine → endsWithin f k k ≡ true
-  unfolding foldsRight
-  folds-ends k g ps e = every-head _ _ (every-rest _ _ (first-holds _ _ _ e))
-
   folds-none : (k : ℕ) (ps : List Point) → foldsRight f k ps 0 ≡ fine → length ps ≡ 0
   unfolding foldsRight
   folds-none k ps e = eqb-true _ _ (need-fine _ _ e)
@@ -117,12 +112,8 @@ module _ (f : List ℕ) where
       fold (every-head _ _ (first-holds _ _ _ e)) (rw s at (folds-all (k + 1) g _ (first-head _ _ (first-rest _ _ e))))
 
   module _ (right : extendedRight f ≡ fine) where
-    pub right-contents : contentsRight f ≡ true
-    unfolding extendedRight
-    right-contents = first-holds _ _ _ right
-
     right-folds : foldsRight f 0 (pointsLeft f 0) (extentOf f .items) ≡ fine
-    right-folds = sym (extended-folds right-contents) ∙ right
+    right-folds = sym (extended-folds (right-contents f right)) ∙ right
 
     right-from : (k : ℕ) → k < extentOf f .items → foldsRight f k (pointsLeft f k) (suc (extentOf f .items - (k + 1))) ≡ fine
     right-from k l =
@@ -132,16 +123,6 @@ module _ (f : List ℕ) where
     -- "a loop or curve not as above": each item is right by itself, with the points that those before it leave
     pub right-own : (k : ℕ) → k < extentOf f .items → ownRight (itemOf f k) (pointsLeft f k) ≡ true
     right-own k l = folds-own k _ _ (right-from k l)
-
-    -- "a group or loop that ends past what holds it": none does
-    pub right-ends : (k : ℕ) → k < extentOf f .items → endsWithin f k k ≡ true
-    right-ends k l = folds-ends k _ _ (right-from k l)
-
-    pub right-within : (k : ℕ) → k < extentOf f .items → endOf f k ≤ extentOf f .items
-    right-within k l = ends-table f k k (right-ends k l)
-
-    pub right-nests : (k i : ℕ) → k < extentOf f .items → i < k → k < endOf f i → endOf f k ≤ endOf f i
-    right-nests k i l = ends-holder f k k i (right-ends k l)
 
     -- "all are used"
     pub right-used : length (pointsLeft f (extentOf f .items)) ≡ 0

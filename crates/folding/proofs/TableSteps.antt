@@ -1,4 +1,4 @@
--- The contents are right: each test of the code is the definition's, and what right contents say of the counts.
+-- The contents are right: each test of the code is the definition's.
 -- Assumes nothing.
 use mathlib.Core.Path.{_≡_, sym, _∙_}
 use mathlib.Core.Bool.{Bool, true, false}
@@ -7,11 +7,11 @@ use Prim.Native.Nat.{ℕ, _<_, _≤_}
 use lib.Dec.{eqb}
 use lib.ListN.{length}
 use borrow.Author.Needs.{needs}
-use borrow.Author.Tests.{eq-eqb, ne-eqb, le-leb, lt-leb, leb-true, eqb-true}
+use borrow.Author.Tests.{eq-eqb, ne-eqb, le-leb, lt-leb}
 use Rattle.base.specs.Tests.{every}
-use Rattle.base.proofs.TestLaws.{every-head, every-rest, every-pass, every-stop, every-last}
+use Rattle.base.proofs.TestLaws.{every-pass, every-stop, every-last}
 use Rattle.extended.specs.declared.Extent.{Extent}
-use Rattle.extended.specs.Layout.{extendedContents, extentOf, wholeSize, contentsRight}
+use Rattle.extended.specs.Layout.{extendedContents, extentOf, contentsRight}
 use Rattle.folding.specs.Inner.{tablesRight}
 
 -- ---- a test of two numbers that were read or computed
@@ -42,19 +42,5 @@ contents-short f p = every-stop _ _ (lt-leb extendedContents (length f) p)
 pub contents-told : (f : List ℕ) (c : Extent) (r : Bool) → extendedContents ≤ length f → c ≡ extentOf f → r ≡ tablesRight f c → r ≡ contentsRight f
 unfolding contentsRight tablesRight
 contents-told f c r p e q = every-pass _ r _ (le-leb extendedContents (length f) p) (rw e at q)
-
-pub contents-long : (f : List ℕ) → contentsRight f ≡ true → extendedContents ≤ length f
-unfolding contentsRight
-contents-long f e = leb-true _ _ (every-head _ _ e)
-
-pub contents-whole : (f : List ℕ) → contentsRight f ≡ true → length f ≡ wholeSize (extentOf f)
-unfolding contentsRight
-contents-whole f e =
-    let e₁ = every-rest _ _ e in
-    let e₂ = every-rest _ _ e₁ in
-    let e₃ = every-rest _ _ e₂ in
-    let e₄ = every-rest _ _ e₃ in
-    let e₅ = every-rest _ _ e₄ in
-    eqb-true _ _ (every-head _ _ (every-rest _ _ e₅))
 
 pub ruleset tables = (contents-short, contents-told, needs)

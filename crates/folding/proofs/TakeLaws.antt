@@ -18,7 +18,7 @@ use Rattle.extended.specs.Folds.{isLoop, isCurve}
 use Rattle.extended.specs.Points.{pointsFrom, pointsAfter}
 use Rattle.extended.specs.Right.{curveRight, ownRight, itemOf}
 use Rattle.folding.specs.Inner.{pointsOf, pointsLeft}
-use Rattle.folding.proofs.PointLaws.{points-length, points-drop}
+use Rattle.extended.proofs.ListLaws.{points-length, points-drop}
 
 pub takes-times : (i : Folded) → i .item .kind ≡ 3 → i .times ≡ pointsOf i
 unfolding pointsOf pick

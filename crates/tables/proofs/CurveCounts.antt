@@ -13,7 +13,7 @@ use Rattle.extended.specs.Layout.{pointSize}
 use Rattle.extended.specs.Points.{pointAt, pointsFrom}
 use Rattle.extended.specs.Inner.{wordRange}
 use Rattle.tables.specs.Inner.{mostCount, Drawn}
-use Rattle.tables.proofs.ListLaws.{points-more}
+use Rattle.extended.proofs.ListLaws.{points-more}
 
 -- ---- one span
 

@@ -1,5 +1,4 @@
 -- Laws of the table and of the values.
-pub mod ListLaws
 pub mod CurveCounts
 pub mod WalkSteps
 pub mod RowSteps

@@ -24,7 +24,7 @@ use Rattle.shapes.specs.Limits.{rowWords}
 use Rattle.shapes.specs.Shapes.{shapeAt, shapesFrom}
 use Rattle.tables.specs.declared.Table.the-variants.{Filled, Over}
 use Rattle.tables.specs.Tables.{timesOf, rowOf, tableOf, shapeOf, shapesOf, pointsPast, itemsIn, pointsIn, valuesIn, tableIn, Tabled}
-use Rattle.tables.proofs.ListLaws.{length-items, items-at}
+use Rattle.extended.proofs.ListLaws.{folded-length, folded-from}
 
 -- ---- the answer
 
@@ -186,7 +186,7 @@ module _ (f : List ℕ) (c : Extent) (o m : List ℕ) (r : ℕ) (laid : Laid o 0
   table-end =
       let s = laid .stop in
       let a = length-table (itemsIn f c) (pointsIn f c) 0 in
-      let b = length-items f (itemsStart c) (c .items) in
+      let b = folded-length f (itemsStart c) (c .items) in
       omega arith
 
   word-laid : (j : ℕ) → j < rowWords * c .items → getD m j 0 ≡ getD (tableIn f c) j 0
@@ -195,20 +195,20 @@ module _ (f : List ℕ) (c : Extent) (o m : List ℕ) (r : ℕ) (laid : Laid o 0
   pub laid-shapes : shapesFrom m 0 (c .items) ≡ shapesOf (itemsIn f c) (pointsIn f c)
   laid-shapes =
       let e = table-end in
-      let a : shapesFrom (tableIn f c) 0 (c .items) ≡ shapesOf (itemsIn f c) (pointsIn f c) = rw (length-items f (itemsStart c) (c .items)) at (shapes-table (itemsIn f c) (pointsIn f c) 0) in
+      let a : shapesFrom (tableIn f c) 0 (c .items) ≡ shapesOf (itemsIn f c) (pointsIn f c) = rw (folded-length f (itemsStart c) (c .items)) at (shapes-table (itemsIn f c) (pointsIn f c) 0) in
       sym (shapes-front m r 0 (c .items) (omega arith)) ∙ ap (λ (l : List ℕ). shapesFrom l 0 (c .items)) (laid .front) ∙ a
 
   module _ (k : ℕ) (p : k < c .items) where
     pub laid-times : getD m (rowWords * k + 2) 0 ≡ timesOf (foldedAt f (itemsStart c + foldedSize * k)) (pointsPast (take k (itemsIn f c)) (pointsIn f c))
     laid-times =
-        let n = length-items f (itemsStart c) (c .items) in
+        let n = folded-length f (itemsStart c) (c .items) in
         word-laid (rowWords * k + 2) (omega arith)
-        ∙ row-times k (itemsIn f c) (pointsIn f c) (omega arith) _ _ (items-at f (itemsStart c) k (c .items) p) 0
+        ∙ row-times k (itemsIn f c) (pointsIn f c) (omega arith) _ _ (folded-from f (itemsStart c) (c .items) k p) 0
 
     pub laid-first : getD m (rowWords * k + 3) 0 ≡ length (allValues (take k (itemsIn f c)) (pointsIn f c))
     laid-first =
-        let n = length-items f (itemsStart c) (c .items) in
+        let n = folded-length f (itemsStart c) (c .items) in
         let z : 0 + length (allValues (take k (itemsIn f c)) (pointsIn f c)) ≡ length (allValues (take k (itemsIn f c)) (pointsIn f c)) = omega arith in
         word-laid (rowWords * k + 3) (omega arith)
-        ∙ row-first k (itemsIn f c) (pointsIn f c) (omega arith) _ _ (items-at f (itemsStart c) k (c .items) p) 0
+        ∙ row-first k (itemsIn f c) (pointsIn f c) (omega arith) _ _ (folded-from f (itemsStart c) (c .items) k p) 0
         ∙ z

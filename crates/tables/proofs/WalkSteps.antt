@@ -25,7 +25,7 @@ use Rattle.extended.specs.Points.{pointAt, pointsFrom, pointsAfter, valuesOf, a
 use Rattle.extended.specs.Right.{curveRight, ownRight}
 use Rattle.extended.specs.Inner.{SmallFolded, Folds, fold, Foldable}
 use Rattle.tables.specs.Inner.{pointsOf, timesAs, itemsLeft, pointsLeft, ItemIn, PointIn, Reached, Drawn}
-use Rattle.tables.proofs.ListLaws.{take-points, drop-points, length-points, items-more, items-none}
+use Rattle.extended.proofs.ListLaws.{points-length, points-take, points-drop, folded-more, folded-none}
 
 -- ---- what is read
 
@@ -111,7 +111,7 @@ module _ (f : List ℕ) (c : Extent) (used : ℕ) (i : Folded) (asked : Reached 
 
   module _ (e : i .item .kind ≡ curve) where
     taken : i .times ≤ c .points - used
-    taken = rw (length-points f (pointsStart c + pointSize * used) (c .points - used)) at (few-points i e (pointsLeft f c used) (asked .right))
+    taken = rw (points-length f (pointsStart c + pointSize * used) (c .points - used)) at (few-points i e (pointsLeft f c used) (asked .right))
 
     pub reached-drawn : (from : ℕ) → from ≡ pointsStart c + pointSize * used → Drawn (length f) from (i .times) (i .each)
     reached-drawn from s =
@@ -127,7 +127,7 @@ module _ (f : List ℕ) (c : Extent) (used : ℕ) (i : Folded) (asked : Reached 
         }
 
     pub reached-values : (from : ℕ) → from ≡ pointsStart c + pointSize * used → valuesOf i (pointsLeft f c used) ≡ curveValues (i .each) (pointsFrom f from (i .times))
-    reached-values from s = values-curve i e (pointsLeft f c used) ∙ rw (take-points f (pointsStart c + pointSize * used) (i .times) (c .points - used) taken, ← s)
+    reached-values from s = values-curve i e (pointsLeft f c used) ∙ rw (points-take f (pointsStart c + pointSize * used) (c .points - used) (i .times) taken, ← s)
 
     pub reached-count : (from r : ℕ) → from ≡ pointsStart c + pointSize * used → r ≡ length (curveValues (i .each) (pointsFrom f from (i .times)))
         → r ≡ length (valuesOf i (pointsLeft f c used))
@@ -144,7 +144,7 @@ module _ (f : List ℕ) (c : Extent) (used : ℕ) (i : Folded) (asked : Reached 
         let a : pointsStart c + pointSize * used + pointSize * i .times ≡ pointsStart c + pointSize * (used + i .times) = omega arith in
         let b : c .points - used - i .times ≡ c .points - (used + i .times) = omega arith in
         after-curve i e (pointsLeft f c used)
-        ∙ rw (drop-points f (pointsStart c + pointSize * used) (i .times) (c .points - used) taken, a, b)
+        ∙ rw (points-drop f (pointsStart c + pointSize * used) (c .points - used) (i .times) taken, a, b)
 
   module _ (n : i .item .kind ≡ curve → ⊥) where
     pub reached-none : 0 ≡ length (valuesOf i (pointsLeft f c used))
@@ -212,7 +212,7 @@ walk-start f c a =
 
 module _ (f : List ℕ) (c : Extent) (k used : ℕ) (walk : Walk f c k used) where
   pub walk-none : c .items ≤ k → itemsLeft f c k ≡ []
-  walk-none p = items-none f (itemsStart c + foldedSize * k) (c .items - k) (omega arith)
+  walk-none p = folded-none f (itemsStart c + foldedSize * k) (c .items - k) (omega arith)
 
   module _ (l : k < c .items) where
     pub walk-item : ItemIn (length f) c k
@@ -225,7 +225,7 @@ module _ (f : List ℕ) (c : Extent) (k used : ℕ) (walk : Walk f c k used) whe
       walk-more =
           let a : itemsStart c + foldedSize * k + foldedSize ≡ itemsStart c + foldedSize * (k + 1) = omega arith in
           let b : c .items - k - 1 ≡ c .items - (k + 1) = omega arith in
-          rw (e, ← a, ← b) (items-more f (itemsStart c + foldedSize * k) (c .items - k) (omega arith))
+          rw (e, ← a, ← b) (folded-more f (itemsStart c + foldedSize * k) (c .items - k) (omega arith))
 
       folds-more : Folds (pointsLeft f c used) (i ∷ itemsLeft f c (k + 1))
       folds-more = rw walk-more at (walk .folds)

@@ -24,7 +24,7 @@ use Rattle.extended.specs.Inner.{Foldable}
 use Rattle.shapes.specs.Limits.{rowWords}
 use Rattle.tables.specs.Tables.{rowOf, tableOf, itemsIn, pointsIn, valuesIn, tableIn}
 use Rattle.tables.specs.Tables as tables
-use Rattle.tables.proofs.ListLaws.{length-items}
+use Rattle.extended.proofs.ListLaws.{folded-length}
 use Rattle.unfolding.specs.declared.Unfolding.the-variants.{OverLimit}
 use Rattle.unfolding.specs.Messages.{withValues}
 use Rattle.unfolding.specs.Extended.{extendedOf, numbered}
@@ -116,7 +116,7 @@ module _ (f : List ℕ) (c : Extent) (right : Foldable f c) where
   pub page-least : c .items ≤ items (scoreIn f .items)
   page-least =
       let a = items-least (itemsIn f c) (pointsIn f c) (extendedOf f .messages) (right .folds) in
-      let b : length (itemsIn f c) ≡ c .items = length-items f (itemsStart c) (c .items) in
+      let b : length (itemsIn f c) ≡ c .items = folded-length f (itemsStart c) (c .items) in
       rw items-are (omega arith)
 
   pub values-least : length (valuesIn f c) ≤ actions (scoreIn f .items)
@@ -178,5 +178,5 @@ rows-same (i ∷ is) ps before =
 -- the rows of a file's own items stand at the front of the table
 pub rows-are : (f : List ℕ) (c : Extent) (table : List ℕ) → take (rowWords * c .items) table ≡ tableIn f c → Rows table 0 0 (itemsIn f c) (pointsIn f c)
 rows-are f c table e =
-    let n : length (itemsIn f c) ≡ c .items = length-items f (itemsStart c) (c .items) in
+    let n : length (itemsIn f c) ≡ c .items = folded-length f (itemsStart c) (c .items) in
     rows-laid table (itemsIn f c) (pointsIn f c) (rw n e ∙ rows-same (itemsIn f c) (pointsIn f c) 0)

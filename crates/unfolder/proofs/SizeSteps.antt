@@ -16,7 +16,8 @@ use Rattle.extended.specs.declared.Extent.{Extent}
 use Rattle.extended.specs.Layout.{extendedContents, extentOf, itemsStart, contentsRight}
 use Rattle.extended.specs.Right.{extendedRight}
 use Rattle.extended.specs.Inner.{SmallExtent, Foldable}
-use Rattle.folding.proofs.RightLaws.{right-contents, right-foldable}
+use Rattle.extended.proofs.RightLaws.{right-contents}
+use Rattle.folding.proofs.RightLaws.{right-foldable}
 use Rattle.shapes.specs.declared.Sizes.{Sizes}
 use Rattle.shapes.specs.declared.Sizes.the-variants.{Within, Over}
 use Rattle.shapes.specs.Limits.{rowWords}

@@ -33,7 +33,7 @@ use Rattle.unfolding.specs.Unfolded.{items, page}
 use Rattle.unfolding.specs.Sizes.{Score, scoreOf, countsOn, withinLimits, fileOf}
 use Rattle.unfolding.specs.Answers.{unfoldedFile}
 use Rattle.unfolding.proofs.CountLaws.{page-length}
-use Rattle.unfolding.proofs.Nesting.{right-nests}
+use Rattle.extended.proofs.RightLaws.{right-nests}
 use Rattle.unfolding.proofs.SelfLaws.{itemIn, same-items, same-messages, same-durations}
 use Rattle.unfolding.proofs.Fitting.{FitEntries, no-entry, fit-entry, Fit, score-fits}
 

@@ -5,7 +5,7 @@ use mathlib.Core.Bool.{Bool, true, false}
 use mathlib.Core.List.{List, [], _∷_, _++_}
 use Prim.Native.Nat.{ℕ, zero, suc, _+_, _<_, _≤_}
 use native.Mathlib.Omega.{arith}
-use lib.Dec.{leb, ltb, eqb}
+use lib.Dec.{ltb, eqb}
 use lib.ListN.{length, getD, length-append, List·getD-append}
 use lib.Seq.{getD-append-add}
 use borrow.Author.Tests.{le-leb, ltb-true, ltb-false, eqb-true, eqb-false, ne-eqb}
@@ -24,6 +24,7 @@ use Rattle.extended.specs.Folds.{heldBy}
 use Rattle.extended.specs.Points.{pointsAfter}
 use Rattle.extended.specs.Right.{plainRight, ownRight, itemOf, endOf, endsWithin, foldsRight}
 use Rattle.unfolding.specs.Unfolded.{withinOf as within, items}
+use Rattle.extended.proofs.NestingLaws.{ends-within}
 use Rattle.unfolding.proofs.Nesting.{Ends, end-is}
 use Rattle.unfolding.proofs.PlainFiles.{plainItem}
 
@@ -100,18 +101,8 @@ lawful-ends f k (walked-item {i = i} {b = b} {l = l} r e inner rest) at =
 -- ---- so it can be unfolded
 
 module _ (f : List ℕ) (ends : Ends f 0 (extentOf f .items)) where
-  within-holder : (k m : ℕ) → k < extentOf f .items → m < k → pick (ltb k (endOf f m)) (leb (endOf f k) (endOf f m)) true ≡ true
-  unfolding pick
-  within-holder k m l h = go (ltb k (endOf f m)) refl
-    where
-      go : (b : Bool) → ltb k (endOf f m) ≡ b → pick b (leb (endOf f k) (endOf f m)) true ≡ true
-      go true e = le-leb (endOf f k) (endOf f m) (ends .held m k (omega arith) h l (ltb-true k (endOf f m) e))
-      go false e = refl
-
-  pub ends-within : (k m : ℕ) → k < extentOf f .items → m ≤ k → endsWithin f k m ≡ true
-  unfolding endsWithin every
-  ends-within k zero l h = le-leb (endOf f k) (extentOf f .items) (ends .ends k (omega arith) l)
-  ends-within k (suc m) l h = rw (within-holder k m l (omega arith), ends-within k m l (omega arith))
+  pub all-within : (k : ℕ) → k < extentOf f .items → endsWithin f k k ≡ true
+  all-within k l = ends-within f k k (ends .ends k (omega arith) l) (λ i p q. ends .held i k (omega arith) p l q)
 
 module _ (i : Item) (k : i .kind ≤ 1) where
   plain-own : (ps : List Point) → ownRight (plainItem i) ps ≡ true

@@ -42,13 +42,14 @@ use Rattle.unfolding.specs.Extended.{extendedOf, Numbered, numberedBy}
 use Rattle.unfolding.specs.Unfolded.{Unfolded, becomes, withinOf as within, unfolded, items, actions, depth, page}
 use Rattle.unfolding.specs.Sizes.{Score, scoreOf, countsOn, withinLimits}
 use Rattle.unfolding.specs.Answers.{unfoldedFile, unfoldAnswer}
-use Rattle.unfolding.proofs.Nesting.{right-nests, Ends}
+use Rattle.extended.proofs.RightLaws.{right-nests}
+use Rattle.unfolding.proofs.Nesting.{Ends}
 use Rattle.unfolding.proofs.SelfLaws.{bare, itemIn, held-is, map-length, same-numbered, same-items, ownCounts, same-counts, unfolds-to-itself}
 use Rattle.unfolding.proofs.Shapes.{unfolded-none, unfolded-more}
 use Rattle.unfolding.proofs.CountLaws.{only-append, page-actions, action-depth, group-depth}
 use Rattle.unfolding.proofs.OneOutcome.{file-made}
 use Rattle.unfolding.proofs.PlainFiles.{plainItem, plainExtent, plainFile, plain-extent, plain-contents, plain-durations, plain-items, plain-entries, plain-text}
-use Rattle.unfolding.proofs.PlainNesting.{At, plain-holds, lawful-ends, ends-within, table-at, folds-fine}
+use Rattle.unfolding.proofs.PlainNesting.{At, plain-holds, lawful-ends, all-within, table-at, folds-fine}
 
 -- ---- its actions and its depth are within the limits
 
@@ -169,7 +170,7 @@ module _ (p : Piece) (l : Lawful p) where
   plain-folds : foldsRight (plainFile p) 0 [] (extentOf (plainFile p) .items) ≡ fine
   plain-folds =
       let f = plainFile p in
-      folds-fine f (p .items) table own-kinds (λ k q. ends-within f plain-ends k k (omega (arith, many)) (omega arith)) 0 (extentOf f .items) (omega (arith, many))
+      folds-fine f (p .items) table own-kinds (λ k q. all-within f plain-ends k (omega (arith, many))) 0 (extentOf f .items) (omega (arith, many))
 
   -- Every lawful piece, so written, can be unfolded.
   pub plain-right : extendedRight (plainFile p) ≡ fine
@@ -182,7 +183,7 @@ module _ (p : Piece) (l : Lawful p) where
   unfolding plainItem
   kinds k q =
       let m : k < length (p .items) = omega (arith, many) in
-      rw (table-at (plainFile p) (p .items) table own-kinds (λ j r. ends-within (plainFile p) plain-ends j j (omega (arith, many)) (omega arith)) k m) (own-kinds k m)
+      rw (table-at (plainFile p) (p .items) table own-kinds (λ j r. all-within (plainFile p) plain-ends j (omega (arith, many))) k m) (own-kinds k m)
 
   plain-counts : ownCounts (plainFile p) ≡ countsIn p
   unfolding plainExtent

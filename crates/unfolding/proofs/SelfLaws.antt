@@ -17,6 +17,8 @@ use Rattle.extended.specs.Layout.{foldedSize, extentOf, eventsStart, itemsStart
 use Rattle.extended.specs.Folds.{foldedFrom, isCurve, heldBy}
 use Rattle.extended.specs.Points.{pointsAfter, valuesOf, allValues}
 use Rattle.extended.specs.Right.{itemOf, endOf, endsWithin, extendedRight}
+use Rattle.extended.proofs.ListLaws.{folded-length, folded-take, folded-drop}
+use Rattle.extended.proofs.RightLaws.{right-nests, right-whole}
 use Rattle.contents.specs.declared.Counts.{Counts}
 use Rattle.contents.specs.Limits.{messageSize}
 use Rattle.contents.proofs.PartLaws.{part-length}
@@ -29,7 +31,7 @@ use Rattle.unfolding.specs.Sizes.{scoreOf, countsOn, fileOf}
 use Rattle.unfolding.specs.Answers.{unfoldedFile}
 use Rattle.unfolding.proofs.Shapes.{becomes-action, becomes-group}
 use Rattle.unfolding.proofs.CountLaws.{page-length}
-use Rattle.unfolding.proofs.Nesting.{folded-length, folded-take, folded-drop, right-nests, right-whole, Ends, end-is, ends-body, ends-rest, ends-all}
+use Rattle.unfolding.proofs.Nesting.{Ends, end-is, ends-body, ends-rest, ends-all}
 
 -- An item with no passes and no values.
 abbrev pub bare : Folded → Numbered
