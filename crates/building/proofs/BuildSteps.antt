@@ -13,10 +13,11 @@ use Rattle.ascii.proofs.LayLaws.{laid-join, laid-nothing}
 use Rattle.shapes.specs.Shapes.{shapeAt, withinOf as treeWithin}
 use Rattle.unfolding.specs.Extended.{Numbered}
 use Rattle.unfolding.specs.Unfolded.{Unfolded, end, isAction, becomes, withinOf, unfolded, items, actions, depth}
+use Rattle.unfolding.proofs.Shapes.{unfolded-none, unfolded-more}
 use Rattle.building.specs.Rows.{numberedAt, numberedIn}
 use Rattle.building.specs.Inner.{pageBytes, Tabled, Buildable}
 use Rattle.building.proofs.ShapeLaws.{within-same}
-use Rattle.building.proofs.NumberedLaws.{unfolded-none, unfolded-more, numbered-one, numbered-none, numbered-take, numbered-drop}
+use Rattle.building.proofs.NumberedLaws.{numbered-one, numbered-none, numbered-take, numbered-drop}
 use Rattle.building.proofs.PageLaws.{end-bytes, bytes-length, item-bytes}
 use Rattle.building.proofs.TableSteps.{tabled-front, tabled-after, shape-here}
 

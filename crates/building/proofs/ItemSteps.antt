@@ -20,8 +20,8 @@ use Rattle.extended.specs.Inner.{SmallFolded}
 use Rattle.filing.specs.Pieces.{Fitting}
 use Rattle.unfolding.specs.Extended.{Numbered, numberedBy}
 use Rattle.unfolding.specs.Unfolded.{Unfolded, end, action, group, isAction, groupItem, passes, sends, insideOf, becomes, items, actions, depth}
+use Rattle.unfolding.proofs.CountLaws.{sends-items}
 use Rattle.building.specs.Inner.{pageBytes, Buildable}
-use Rattle.building.proofs.ShapeLaws.{items-sends}
 use Rattle.building.proofs.PageLaws.{action-bytes, end-bytes, group-alone}
 
 -- ---- what was read of an item fits its bytes
@@ -95,13 +95,13 @@ module _ (i j : Folded) (e : i ≡ j) (ns : List ℕ) (b : Unfolded) (size to d 
       pub curve-few : (times : ℕ) → (i .item .kind ≡ 2 → ⊥) → times ≡ length ns → times ≤ mostItems
       curve-few times k t =
           let r : items (sends (i .item) (i .each) 0 ns) ≤ mostItems = curve-made k .few in
-          let v = items-sends (i .item) (i .each) 0 ns in
+          let v = sends-items (i .item) (i .each) 0 ns in
           omega arith
 
       pub curve-room : (times : ℕ) → (i .item .kind ≡ 2 → ⊥) → times ≡ length ns → to + itemSize + itemSize * times ≤ size
       curve-room times k t =
           let r = curve-made k .room in
-          let v = items-sends (i .item) (i .each) 0 ns in
+          let v = sends-items (i .item) (i .each) 0 ns in
           omega arith
 
 -- ---- laid out
@@ -138,7 +138,7 @@ module _ (i j : Folded) (e : i ≡ j) (ns : List ℕ) (b : Unfolded) (o m : List
   pub curve-laid : (n : ℕ) (ms : List ℕ) → (i .item .kind ≡ 1 → ⊥) → (i .item .kind ≡ 2 → ⊥) → n ≡ length ns → ns ≡ ms → Laid o to (itemBytes (groupItem (i .item) n ∷ [])) m at
       → Laid m at (pageBytes (sends (i .item) (i .each) 0 ms)) p r → Laid o to (pageBytes (becomes (numberedBy j ns) b end)) p r
   curve-laid n ms g q en es k l =
-      let s : n ≡ items (sends (i .item) (i .each) 0 ns) = en ∙ sym (items-sends (i .item) (i .each) 0 ns) in
+      let s : n ≡ items (sends (i .item) (i .each) 0 ns) = en ∙ sym (sends-items (i .item) (i .each) 0 ns) in
       other-laid (sends (i .item) (i .each) 0 ns) (is-curve i ns b g q) n s k (rw es l)
 
 -- ---- on behind an item

@@ -18,6 +18,7 @@ use Rattle.extended.specs.Points.{pointsAfter, valuesOf}
 use Rattle.extended.specs.Right.{mostPasses, loopRight, curveRight, plainRight, ownRight}
 use Rattle.unfolding.specs.Messages.{Messages, withValue, withValues, numberOf, numbersOf}
 use Rattle.unfolding.specs.Extended.{numberedBy, numbered}
+use Rattle.unfolding.proofs.CountLaws.{numbers-length}
 use Rattle.building.specs.Rows.{timesIn, shapeOf, timesOf}
 
 -- ---- what an item is
@@ -51,11 +52,6 @@ kinds i ps r = go (isLoop i) (isCurve i) refl refl (every-head _ _ (every-rest _
   go false false p q h = right-plain i (rw (p, q) at h)
 
 -- ---- message numbers
-
-pub numbers-length : (m : Messages) (vs : List ℤ) → length (numbersOf m vs) ≡ length vs
-unfolding numbersOf
-numbers-length m [] = refl
-numbers-length m (v ∷ vs) = let h = numbers-length (withValue m v) vs in omega arith
 
 pub numbers-both : (m : Messages) (xs ys : List ℤ) → numbersOf m (xs ++ ys) ≡ numbersOf m xs ++ numbersOf (withValues m xs) ys
 unfolding numbersOf withValues

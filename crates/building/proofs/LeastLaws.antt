@@ -22,8 +22,9 @@ use Rattle.shapes.proofs.UnfoldLaws.{adds, unfolded-more}
 use Rattle.unfolding.specs.Messages.{Messages, withValues, numbersOf}
 use Rattle.unfolding.specs.Extended.{numberedBy, numbered}
 use Rattle.unfolding.specs.Unfolded.{unfolded, items, actions}
+use Rattle.unfolding.proofs.CountLaws.{numbers-length}
 use Rattle.building.specs.Rows.{timesIn, shapeOf, shapesOf}
-use Rattle.building.proofs.KindLaws.{Kinds, a-loop, a-curve, an-action, a-group, kinds, loop-passes, numbers-length, numbered-length}
+use Rattle.building.proofs.KindLaws.{Kinds, a-loop, a-curve, an-action, a-group, kinds, loop-passes, numbered-length}
 use Rattle.building.proofs.ShapeLaws.{shapes-length, items-same, actions-same}
 
 -- ---- shapes

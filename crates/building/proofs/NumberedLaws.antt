@@ -1,45 +1,11 @@
--- Numbered items unfolded one at a time: that the bound of the recursion does not matter, and the items of a table part by part.
+-- The numbered items of a table, part by part.
 -- Assumes nothing.
 use mathlib.Core.Path.{_≡_, refl}
 use mathlib.Core.List.{List, [], _∷_}
 use Prim.Native.Nat.{ℕ, zero, suc, _+_, _-_, _<_, _≤_, min}
 use native.Mathlib.Omega.{arith}
-use lib.ListN.{length, take, drop, length-take, length-drop}
-use Rattle.unfolding.specs.Extended.{Numbered}
-use Rattle.unfolding.specs.Unfolded.{end, becomes, withinOf, unfoldedTo, unfolded}
+use lib.ListN.{take, drop}
 use Rattle.building.specs.Rows.{numberedAt, numberedIn}
-
--- ---- any bound that is enough unfolds the same
-
-bound : (x y : ℕ) (is : List Numbered) → length is ≤ x → length is ≤ y → unfoldedTo x is ≡ unfoldedTo y is
-unfolding unfoldedTo
-bound zero zero is p q = refl
-bound zero (suc y) [] p q = refl
-bound zero (suc y) (i ∷ is) p q = absurd (omega arith)
-bound (suc x) zero [] p q = refl
-bound (suc x) zero (i ∷ is) p q = absurd (omega arith)
-bound (suc x) (suc y) [] p q = refl
-bound (suc x) (suc y) (i ∷ is) p q =
-    let t = length-take (withinOf i) is in
-    let d = length-drop (withinOf i) is in
-    let a : unfoldedTo x (take (withinOf i) is) ≡ unfoldedTo y (take (withinOf i) is) = bound x y (take (withinOf i) is) (omega arith) (omega arith) in
-    let b : unfoldedTo x (drop (withinOf i) is) ≡ unfoldedTo y (drop (withinOf i) is) = bound x y (drop (withinOf i) is) (omega arith) (omega arith) in
-    rw (a, b)
-
-pub unfolded-none : unfolded [] ≡ end
-unfolding unfolded unfoldedTo
-unfolded-none = refl
-
-pub unfolded-more : (i : Numbered) (is : List Numbered) → unfolded (i ∷ is) ≡ becomes i (unfolded (take (withinOf i) is)) (unfolded (drop (withinOf i) is))
-unfolding unfolded unfoldedTo
-unfolded-more i is =
-    let t = length-take (withinOf i) is in
-    let d = length-drop (withinOf i) is in
-    let a : unfoldedTo (length is) (take (withinOf i) is) ≡ unfoldedTo (length (take (withinOf i) is)) (take (withinOf i) is) = bound (length is) (length (take (withinOf i) is)) (take (withinOf i) is) (omega arith) (omega arith) in
-    let b : unfoldedTo (length is) (drop (withinOf i) is) ≡ unfoldedTo (length (drop (withinOf i) is)) (drop (withinOf i) is) = bound (length is) (length (drop (withinOf i) is)) (drop (withinOf i) is) (omega arith) (omega arith) in
-    rw (a, b)
-
--- ---- the items of a table, part by part
 
 module _ (f : List ℕ) (start : ℕ) (table numbers : List ℕ) where
   pub numbered-one : (k count : ℕ) → 0 < count → numberedIn f start table numbers k count ≡ numberedAt f start table numbers k ∷ numberedIn f start table numbers (k + 1) (count - 1)

@@ -13,8 +13,8 @@ use Rattle.ascii.proofs.LayLaws.{laid-join, laid-nothing}
 use Rattle.contents.specs.Limits.{itemSize, mostItems, mostActions, deepest}
 use Rattle.score.specs.Encode.{itemBytes}
 use Rattle.unfolding.specs.Unfolded.{Unfolded, end, group, passItem, groupItem, passes, items, actions, depth, page}
+use Rattle.unfolding.proofs.CountLaws.{passes-items, passes-actions, passes-depth}
 use Rattle.building.specs.Inner.{pageBytes, delayOf, Buildable}
-use Rattle.building.proofs.ShapeLaws.{items-passes, actions-passes, depth-passes}
 use Rattle.building.proofs.PageLaws.{bytes-length, passes-more}
 use Rattle.building.proofs.PieceSteps.{delay-first, delay-next}
 use Rattle.building.proofs.TableSteps.{sized}
@@ -27,7 +27,7 @@ positive n p = omega arith
 
 module _ (i : Item) (each : ℕ) (b : Unfolded) (size to d times : ℕ) (m : Buildable size to d (passes i each 0 times b)) (some : 0 < times) where
   passes-most : times + times * items b ≤ mostItems
-  passes-most = let f = m .few in let e = items-passes i each 0 times b in omega arith
+  passes-most = let f = m .few in let e = passes-items i each 0 times b in omega arith
 
   pub pass-product : (n : ℕ) → n ≡ items b → times + times * n ≤ mostItems
   pass-product n e = rw e passes-most
@@ -41,12 +41,12 @@ module _ (i : Item) (each : ℕ) (b : Unfolded) (size to d times : ℕ) (m : Bui
   pub pass-sent : actions b ≤ mostActions
   pass-sent =
       let f = m .sent in
-      let e = actions-passes i each 0 times b in
+      let e = passes-actions i each 0 times b in
       let l : 1 * actions b ≤ times * actions b = mul-le-mul-right (actions b) some in
       omega arith
 
   pub pass-flat : d + (1 + depth b) ≤ deepest
-  pass-flat = let f = m .flat in let e = depth-passes i each 0 times b some in omega arith
+  pass-flat = let f = m .flat in let e = passes-depth i each 0 times b some in omega arith
 
 module _ (i : Item) (each : ℕ) (b : Unfolded) (o m : List ℕ) (to at : ℕ) where
   pub no-pass-laid : (times : ℕ) → times ≡ 0 → Laid o to (itemBytes (groupItem i 0 ∷ [])) m at → Laid o to (pageBytes (group i (passes i each 0 times b) end)) m at
@@ -56,7 +56,7 @@ module _ (i : Item) (each : ℕ) (b : Unfolded) (o m : List ℕ) (to at : ℕ) w
   pub passes-laid : (times n : ℕ) (p : List ℕ) (r : ℕ) → n ≡ items b → Laid o to (itemBytes (groupItem i (times + times * n) ∷ [])) m at → Laid m at (pageBytes (passes i each 0 times b)) p r
       → Laid o to (pageBytes (group i (passes i each 0 times b) end)) p r
   passes-laid times n p r e k l =
-      let s : times + times * n ≡ items (passes i each 0 times b) = ap (λ (x : ℕ). times + times * x) e ∙ sym (items-passes i each 0 times b) in
+      let s : times + times * n ≡ items (passes i each 0 times b) = ap (λ (x : ℕ). times + times * x) e ∙ sym (passes-items i each 0 times b) in
       group-laid-alone i (passes i each 0 times b) (times + times * n) o m p to at r s k l
 
 -- ---- the passes of a loop
@@ -71,7 +71,7 @@ module _ (i : Item) (each : ℕ) (b : Unfolded) (o : List ℕ) (to d times : ℕ
   passes-room =
       let z : times - 0 ≡ times = omega arith in
       let r = asked .room in
-      let e = items-passes i each 0 times b in
+      let e = passes-items i each 0 times b in
       let f = mul-add times 1 (items b) in
       let g = mul-one times in
       rw z (omega arith)

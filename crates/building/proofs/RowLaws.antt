@@ -23,9 +23,10 @@ use Rattle.shapes.specs.Shapes.{shapeAt, shapesFrom, unfolded as treeUnfolded, 
 use Rattle.unfolding.specs.Messages.{Messages, withValues, numbersOf}
 use Rattle.unfolding.specs.Extended.{numbered}
 use Rattle.unfolding.specs.Unfolded.{unfolded, items, actions, depth}
+use Rattle.unfolding.proofs.CountLaws.{numbers-length}
 use Rattle.building.specs.Rows.{firstAt, numbersAt, numberedIn, shapesOf, timesOf, Rows, no-rows, row, rowsOf}
 use Rattle.building.proofs.ShapeLaws.{items-same, actions-same, depth-same}
-use Rattle.building.proofs.KindLaws.{numbers-length, numbers-both, shape-same}
+use Rattle.building.proofs.KindLaws.{numbers-both, shape-same}
 
 -- ---- the numbers of the first values, and of those after them
 

@@ -3,7 +3,7 @@
 use mathlib.Core.Path.{_≡_, refl, sym, ap, _∙_}
 use mathlib.Core.Bool.{Bool, true, false}
 use mathlib.Core.List.{List, [], _∷_}
-use Prim.Native.Nat.{ℕ, zero, suc, _+_, _*_, _<_}
+use Prim.Native.Nat.{ℕ, zero, suc}
 use native.Mathlib.Omega.{arith}
 use lib.ListN.{length, take, drop}
 use borrow.Author.Tests.{eqb-true}
@@ -12,7 +12,6 @@ use Rattle.page.specs.declared.Item.{Item}
 use Rattle.shapes.specs.declared.Shape.{Shape}
 use Rattle.shapes.specs.Shapes as tree
 use Rattle.shapes.specs.Shapes.{Tree, passes as treePasses, values, insideOf as treeInside, becomes as treeBecomes, withinOf as treeWithin, unfoldedTo as treeTo, unfolded as treeUnfolded, items as treeItems, actions as treeActions, depth as treeDepth}
-use Rattle.shapes.proofs.UnfoldLaws as laws
 use Rattle.unfolding.specs.Extended.{Numbered}
 use Rattle.unfolding.specs.Unfolded.{Unfolded, end, action, group, isAction, isGroup, isLoop, passes, sends, insideOf, becomes, withinOf, unfoldedTo, unfolded, items, actions, depth}
 use Rattle.building.specs.Rows.{timesIn, shapeOf, shapesOf}
@@ -119,18 +118,3 @@ actions-same is = actions-shaped (unfolded is) ∙ ap treeActions (unfolded-shap
 
 pub depth-same : (is : List Numbered) → depth (unfolded is) ≡ treeDepth (treeUnfolded (shapesOf is))
 depth-same is = depth-shaped (unfolded is) ∙ ap treeDepth (unfolded-shaped is)
-
--- ---- the sizes of passes and values
-
-module _ (i : Item) (period d : ℕ) where
-  pub items-passes : (n : ℕ) (b : Unfolded) → items (passes i period d n b) ≡ n + n * items b
-  items-passes n b = items-shaped (passes i period d n b) ∙ ap treeItems (passes-shaped i period d n b) ∙ laws.items-passes n (shaped b) ∙ ap (λ (k : ℕ). n + n * k) (sym (items-shaped b))
-
-  pub actions-passes : (n : ℕ) (b : Unfolded) → actions (passes i period d n b) ≡ n * actions b
-  actions-passes n b = actions-shaped (passes i period d n b) ∙ ap treeActions (passes-shaped i period d n b) ∙ laws.actions-passes n (shaped b) ∙ ap (λ (k : ℕ). n * k) (sym (actions-shaped b))
-
-  pub depth-passes : (n : ℕ) (b : Unfolded) → 0 < n → depth (passes i period d n b) ≡ 1 + depth b
-  depth-passes n b p = depth-shaped (passes i period d n b) ∙ ap treeDepth (passes-shaped i period d n b) ∙ laws.depth-passes n (shaped b) p ∙ ap (λ (k : ℕ). 1 + k) (sym (depth-shaped b))
-
-  pub items-sends : (ns : List ℕ) → items (sends i period d ns) ≡ length ns
-  items-sends ns = items-shaped (sends i period d ns) ∙ ap treeItems (sends-shaped i period d ns) ∙ laws.items-values (length ns)

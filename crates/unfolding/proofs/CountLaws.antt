@@ -3,7 +3,7 @@
 use mathlib.Core.Path.{_≡_, refl, ap, _∙_}
 use mathlib.Core.Bool.{Bool, true, false}
 use mathlib.Core.List.{List, [], _∷_, _++_}
-use Prim.Native.Nat.{ℕ, zero, suc, _+_, _*_, max}
+use Prim.Native.Nat.{ℕ, zero, suc, _+_, _*_, _<_, max}
 use native.Mathlib.Nat.{suc-mul, zero-mul}
 use native.Mathlib.Omega.{arith}
 use lib.IntN.{ℤ}
@@ -34,10 +34,11 @@ unfolding passes actions
 passes-actions i period d zero body = omega (arith, zero-mul (actions body))
 passes-actions i period d (suc n) body = omega (arith, passes-actions i period period n body, suc-mul n (actions body))
 
-pub passes-depth : (i : Item) (period d n : ℕ) (body : Unfolded) → depth (passes i period d (suc n) body) ≡ 1 + depth body
+pub passes-depth : (i : Item) (period d n : ℕ) (body : Unfolded) → 0 < n → depth (passes i period d n body) ≡ 1 + depth body
 unfolding passes depth
-passes-depth i period d zero body = omega arith
-passes-depth i period d (suc n) body = omega (arith, passes-depth i period period n body)
+passes-depth i period d zero body p = absurd (omega arith)
+passes-depth i period d (suc zero) body p = omega arith
+passes-depth i period d (suc (suc n)) body p = omega (arith, passes-depth i period period (suc n) body (omega arith))
 
 pub sends-items : (i : Item) (step d : ℕ) (ns : List ℕ) → items (sends i step d ns) ≡ length ns
 unfolding sends items
@@ -112,7 +113,7 @@ module _ (i : Numbered) (body rest : Unfolded) where
     loop-depth n e =
         let two : 1 + (1 + depth body) ≡ 2 + depth body = omega arith in
         ap depth (becomes-loop i body rest k)
-        ∙ rw (e, passes-depth (i .item) (i .each) 0 n body, two)
+        ∙ rw (e, passes-depth (i .item) (i .each) 0 (suc n) body (omega arith), two)
 
   -- A curve is one item, and an action for each of its values.
   module _ (k : i .item .kind ≡ 3) where
