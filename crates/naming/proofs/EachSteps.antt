@@ -18,13 +18,13 @@ use Rattle.values.specs.Integers.{wholeRange}
 use Rattle.values.specs.Inner.{valueOf}
 use Rattle.extended.specs.declared.Extent.{Extent}
 use Rattle.unfolding.specs.Messages.{Messages, entriesBytes, numberOf, withValue, withValues, numbersOf}
+use Rattle.unfolding.proofs.MessageLaws.{entries-length}
 use Rattle.naming.specs.declared.Naming.{Naming}
 use Rattle.naming.specs.declared.Naming.the-variants.{Named, Over}
 use Rattle.naming.specs.declared.places.Place.{Place}
 use Rattle.naming.specs.declared.places.Place.the-variants.{At, Full}
 use Rattle.naming.specs.Named.{fits, namingOf, Namable, Names}
 use Rattle.naming.specs.Inner.{messagesIn, Standing, Keyed, Placed, placed, placed-none, EachAsked}
-use Rattle.naming.proofs.EntryLaws.{entries-length}
 use Rattle.naming.proofs.GrowthLaws.{fits-both, stays-over}
 use Rattle.naming.proofs.PlaceSteps.{text-count}
 

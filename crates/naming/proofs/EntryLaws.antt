@@ -18,11 +18,6 @@ use Rattle.naming.specs.Inner.{entryAt}
 
 -- ---- one by one
 
-pub entries-length : (e : List ℕ) (at n : ℕ) → length (entriesFrom e at n) ≡ n
-unfolding entriesFrom
-entries-length e at zero = refl
-entries-length e at (suc n) = ap suc (entries-length e (at + messageSize) n)
-
 -- the first of those that are left, in the code's own terms
 pub entries-next : (e : List ℕ) (i n : ℕ) → i < n → entriesFrom e (messageSize * i) (n - i) ≡ entryAt e (messageSize * i) ∷ entriesFrom e (messageSize * (i + 1)) (n - (i + 1))
 unfolding entriesFrom entryAt

@@ -5,7 +5,6 @@ use mathlib.Core.Bool.{Bool, true, false}
 use mathlib.Core.List.{List, [], _∷_, _++_}
 use Prim.Native.Nat.{ℕ, _+_, _<_, _≤_}
 use native.Mathlib.Omega.{arith}
-use lib.Dec.{ltb}
 use lib.IntN.{ℤ}
 use lib.ListN.{length, drop, length-append, length-drop}
 use lib.Seq.{take-length, take-append-le, drop-append-le, drop-append-seam}
@@ -16,6 +15,7 @@ use Rattle.contents.specs.Limits.{mostMessages, mostText}
 use Rattle.contents.specs.Bytes.{part}
 use Rattle.values.specs.Digits.{digits}
 use Rattle.unfolding.specs.Messages.{Entry, Messages, numberOf, joined, withValue, withValues}
+use Rattle.unfolding.proofs.MessageLaws.{grown-values, entries-grow, text-grows}
 use Rattle.naming.specs.Named.{fits}
 use Rattle.naming.specs.Inner.{allWithin, keyOf, keyIn, keysOf}
 
@@ -91,7 +91,7 @@ many m p = fits-unless m (λ t. omega (arith, fits-messages m t))
 pub long : (m : Messages) → mostText < length (m .text) → fits m ≡ false
 long m p = fits-unless m (λ t. omega (arith, fits-text m t))
 
--- ---- values only lengthen the list
+-- ---- a value's list, and values after it
 
 pub with-old : (m : Messages) (v : ℤ) → numberOf m v < length (m .entries) → withValue m v ≡ m
 unfolding withValue pick
@@ -101,36 +101,14 @@ pub with-new : (m : Messages) (v : ℤ) → length (m .entries) ≤ numberOf m v
 unfolding withValue pick
 with-new m v p = rw (le-ltb _ _ p)
 
--- entries and text of the one are at most those of the other
-pub record Grows (m k : Messages) : Type 0 where
-  pub more-entries : length (m .entries) ≤ length (k .entries)
-  pub more-text : length (m .text) ≤ length (k .text)
-
-joined-grows : (m : Messages) (name : List ℕ) → Grows m (joined m name)
-unfolding joined
-joined-grows m name = record { more-entries = omega (arith, length-append (m .entries) (record { start = length (m .text); size = length name } ∷ [])); more-text = omega (arith, length-append (m .text) name) }
-
-value-grows : (m : Messages) (v : ℤ) → Grows m (withValue m v)
-unfolding withValue pick
-value-grows m v = go (ltb (numberOf m v) (length (m .entries))) where
-  go : (t : Bool) → Grows m (pick t m (joined m (digits v)))
-  go true = record { more-entries = omega arith; more-text = omega arith }
-  go false = joined-grows m (digits v)
-
-pub values-grow : (m : Messages) (vs : List ℤ) → Grows m (withValues m vs)
-unfolding withValues
-values-grow m [] = record { more-entries = omega arith; more-text = omega arith }
-values-grow m (v ∷ vs) =
-    let a = value-grows m v in
-    let b = values-grow (withValue m v) vs in
-    record { more-entries = omega arith; more-text = omega arith }
-
 -- what is past a limit stays so
 pub stays-over : (m : Messages) (vs : List ℤ) → fits m ≡ false → fits (withValues m vs) ≡ false
 stays-over m vs p =
     fits-unless (withValues m vs)
     (λ t.
-    let g = values-grow m vs in
+    let g = grown-values m vs in
+    let c = entries-grow m (withValues m vs) g in
+    let d = text-grows m (withValues m vs) g in
     let a = fits-messages (withValues m vs) t in
     let b = fits-text (withValues m vs) t in
     let f : fits m ≡ true = fits-both m (omega arith) (omega arith) in

@@ -25,10 +25,11 @@ use Rattle.values.specs.Inner.{valueOf, mostDigits}
 use Rattle.values.proofs.DigitLaws.{digits-at-or-above, digits-below}
 use Rattle.filing.specs.Pieces.{entryOf}
 use Rattle.unfolding.specs.Messages.{Messages, entriesFrom, numberOf, joined, withValue}
+use Rattle.unfolding.proofs.MessageLaws.{entries-length}
 use Rattle.naming.specs.declared.places.Place.{Place}
 use Rattle.naming.specs.declared.places.Place.the-variants.{At, Full}
 use Rattle.naming.specs.Inner.{symbol, allSymbols, keyOf, keysOf, messagesIn, allWithin, Standing, Keyed, Searchable, Finds, Joins, joins, joins-none, Placed, placed, placed-none}
-use Rattle.naming.proofs.EntryLaws.{entries-length, entries-joined, bytes-joined}
+use Rattle.naming.proofs.EntryLaws.{entries-joined, bytes-joined}
 use Rattle.naming.proofs.KeyLaws.{symbol-minus, symbol-digit, symbols-more, keys-behind}
 use Rattle.naming.proofs.GrowthLaws.{within-grown, keys-grown, key-last, many, long, with-old, with-new}
 

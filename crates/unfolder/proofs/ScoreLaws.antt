@@ -31,8 +31,7 @@ use Rattle.unfolding.specs.Extended.{extendedOf, numbered}
 use Rattle.unfolding.specs.Unfolded.{unfolded, items, actions, depth}
 use Rattle.unfolding.specs.Sizes.{Score, scoreOf, withinLimits}
 use Rattle.unfolding.specs.Answers.{answered, roomLeft}
-use Rattle.naming.proofs.EntryLaws.{entries-length}
-use Rattle.naming.proofs.GrowthLaws.{values-grow}
+use Rattle.unfolding.proofs.MessageLaws.{grown-values, entries-grow, text-grows, entries-length}
 use Rattle.building.specs.Rows.{timesOf, Rows, rowsOf}
 use Rattle.building.proofs.LeastLaws.{items-least, actions-least}
 use Rattle.building.proofs.RowLaws.{rows-laid}
@@ -124,13 +123,13 @@ module _ (f : List ℕ) (c : Extent) (right : Foldable f c) where
 
   pub messages-least : c .messages ≤ length (scoreIn f .messages .entries)
   messages-least =
-      let g = values-grow (extendedOf f .messages) (valuesIn f c) .more-entries in
+      let g = entries-grow (extendedOf f .messages) _ (grown-values (extendedOf f .messages) (valuesIn f c)) in
       let a = own-messages in
       rw messages-are (omega arith)
 
   pub text-least : c .text ≤ length (scoreIn f .messages .text)
   text-least =
-      let g = values-grow (extendedOf f .messages) (valuesIn f c) .more-text in
+      let g = text-grows (extendedOf f .messages) _ (grown-values (extendedOf f .messages) (valuesIn f c)) in
       let a = own-text in
       rw messages-are (omega arith)
 

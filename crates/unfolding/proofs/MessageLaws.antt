@@ -14,13 +14,21 @@ use Rattle.base.specs.Tests.{pick, every}
 use Rattle.base.proofs.TestLaws.{every-head, every-rest}
 use Rattle.ascii.specs.Words.{begins, same}
 use Rattle.ascii.proofs.WordLaws.{same-bytes}
+use Rattle.contents.specs.Limits.{messageSize}
 use Rattle.contents.specs.Bytes.{part}
 use Rattle.values.specs.Digits.{digits}
 use Rattle.values.specs.Curves.{Point}
 use Rattle.extended.specs.declared.Folded.{Folded}
 use Rattle.extended.specs.Points.{pointsAfter, valuesOf, allValues}
 use Rattle.unfolding.specs.Extended.{Numbered, numberedBy, numbered}
-use Rattle.unfolding.specs.Messages.{Entry, Messages, isNamed, numberIn, numberOf, joined, withValue, withValues, numbersOf}
+use Rattle.unfolding.specs.Messages.{Entry, Messages, entriesFrom, isNamed, numberIn, numberOf, joined, withValue, withValues, numbersOf}
+
+-- ---- the entries of a file
+
+pub entries-length : (f : List ℕ) (at n : ℕ) → length (entriesFrom f at n) ≡ n
+unfolding entriesFrom
+entries-length f at zero = refl
+entries-length f at (suc n) = ap suc (entries-length f (at + messageSize) n)
 
 -- ---- a list that grew
 

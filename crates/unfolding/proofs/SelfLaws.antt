@@ -20,17 +20,17 @@ use Rattle.extended.specs.Right.{itemOf, endOf, endsWithin, extendedRight}
 use Rattle.extended.proofs.ListLaws.{folded-length, folded-take, folded-drop}
 use Rattle.extended.proofs.RightLaws.{right-nests, right-whole}
 use Rattle.contents.specs.declared.Counts.{Counts}
-use Rattle.contents.specs.Limits.{messageSize}
 use Rattle.contents.proofs.PartLaws.{part-length}
 use Rattle.score.proofs.Decoded.{durations-length}
 use Rattle.score.specs.Encode.{contentsBytes, durationBytes, itemBytes}
-use Rattle.unfolding.specs.Messages.{Messages, entriesFrom, entriesBytes, withValues, numbersOf}
+use Rattle.unfolding.specs.Messages.{Messages, entriesBytes, withValues, numbersOf}
 use Rattle.unfolding.specs.Extended.{extendedOf, Numbered, numberedBy, numbered}
 use Rattle.unfolding.specs.Unfolded.{Unfolded, becomes, withinOf, unfoldedTo, unfolded, items, groupItem, page}
 use Rattle.unfolding.specs.Sizes.{scoreOf, countsOn, fileOf}
 use Rattle.unfolding.specs.Answers.{unfoldedFile}
 use Rattle.unfolding.proofs.Shapes.{becomes-action, becomes-group}
 use Rattle.unfolding.proofs.CountLaws.{page-length}
+use Rattle.unfolding.proofs.MessageLaws.{entries-length}
 use Rattle.unfolding.proofs.Nesting.{Ends, end-is, ends-body, ends-rest, ends-all}
 
 -- An item with no passes and no values.
@@ -237,11 +237,6 @@ unfolding scoreOf
 same-durations f = refl
 
 -- ---- the file
-
-pub entries-length : (f : List ℕ) (at count : ℕ) → length (entriesFrom f at count) ≡ count
-unfolding entriesFrom
-entries-length f at zero = refl
-entries-length f at (suc count) = ap suc (entries-length f (at + messageSize) count)
 
 -- An extended score's own counts, but for the points.
 abbrev pub ownCounts : List ℕ → Counts
