@@ -125,7 +125,7 @@ bodies-encode : (p : Piece) → Lawful p → bodiesRight (encode p) (countsIn p)
 unfolding bodiesRight firstFault
 bodies-encode p l = rw (decode-encode p l, l .durations, l .items, messages-encode p (lawful-fielded p l) (l .labels))
 
-offsets-right : (c : Counts) → offsetsRight (offsetsIn c) c (sizeOf c) ≡ fine
+pub offsets-right : (c : Counts) → offsetsRight (offsetsIn c) c (sizeOf c) ≡ fine
 unfolding offsetsRight firstFault need
 offsets-right c = rw (eq-eqb (itemsAt c) _ refl, eq-eqb (messagesAt c) _ refl, eq-eqb (textAt c) _ refl, eq-eqb (sizeOf c) _ refl)
 
@@ -146,12 +146,12 @@ encode-accepted p l = record { fine = encode-fine p l }
 
 -- ---- a lawful piece's file has bytes only
 
-durations-bytes : {ds : List ℕ} → FitDurations ds → Bytes (durationBytes ds)
+pub durations-bytes : {ds : List ℕ} → FitDurations ds → Bytes (durationBytes ds)
 unfolding durationBytes
 durations-bytes no-duration = empty
 durations-bytes (fit-duration {d = d} p r) = bytes-append (le32-bytes d p) (durations-bytes r)
 
-items-bytes : {is : List Item} → FitItems is → Bytes (itemBytes is)
+pub items-bytes : {is : List Item} → FitItems is → Bytes (itemBytes is)
 unfolding itemBytes
 items-bytes no-item = empty
 items-bytes (fit-item {i = i} r rs) =
@@ -183,7 +183,7 @@ text-bytes (l ∷ ls) e =
     let e₁ = every-rest _ _ e in
     bytes-append (label-bytes l (every-head _ _ e₁)) (text-bytes ls (every-head _ _ (every-rest _ _ e₁)))
 
-contents-bytes : (c : Counts) → Counted c → Bytes (contentsBytes c)
+pub contents-bytes : (c : Counts) → Counted c → Bytes (contentsBytes c)
 unfolding contentsBytes
 contents-bytes c k =
     bytes-append (le32-bytes eventsAt (omega arith))

@@ -7,10 +7,9 @@ use Prim.Native.Nat.{ℕ, _+_, _*_, _<_, _≤_}
 use native.Mathlib.Omega.{arith}
 use lib.ListN.{length, getD, drop, length-append}
 use lib.Seq.{drop-drop}
-use Rattle.page.specs.declared.Item.{Item}
 use Rattle.base.specs.Checks.{fine}
 use Rattle.contents.specs.declared.Counts.{Counts}
-use Rattle.contents.specs.Limits.{contentsSize, messageSize}
+use Rattle.contents.specs.Limits.{messageSize}
 use Rattle.contents.specs.Bytes.{u16At, part}
 use Rattle.contents.specs.Contents.{countsOf, eventsAt, itemsAt, messagesAt, textAt, sizeOf}
 use Rattle.contents.specs.Inner.{Counted}
@@ -19,11 +18,10 @@ use Rattle.messages.specs.Messages.{labelAt, labelsAt}
 use Rattle.score.specs.Events.{durationsAt}
 use Rattle.score.specs.Piece.{Piece, decode}
 use Rattle.score.specs.File.{checked}
-use Rattle.score.specs.Encode.{le16, le32, contentsBytes, durationBytes, itemBytes, encode}
-use Rattle.score.proofs.EncodingBytes.{Bytes, empty, byte, bytes-append, bytes-at, le16-bytes, le32-bytes, drop-on, u16-on, u16-read}
-use Rattle.score.proofs.Fielded.{FitItems, no-item, fit-item, FitDurations, no-duration, fit-duration}
+use Rattle.score.specs.Encode.{le16, durationBytes, itemBytes, encode}
+use Rattle.score.proofs.EncodingBytes.{Bytes, empty, bytes-append, bytes-at, le16-bytes, drop-on, u16-on, u16-read}
 use Rattle.score.proofs.EncodingReads.{durations-read, items-read, counts-read, contents-rest}
-use Rattle.score.proofs.EncodingPieces.{durations-size, items-size}
+use Rattle.score.proofs.EncodingPieces.{durations-size, items-size, contents-size, durations-bytes, items-bytes, contents-bytes}
 use Rattle.score.proofs.EncodingFiles.{encode-decode}
 use Rattle.extended.specs.Layout.{extentOf}
 use Rattle.extended.specs.Right.{itemOf, extendedRight}
@@ -76,11 +74,11 @@ module _ (g : List ℕ) (c : Counts) (text : List ℕ) (stands : drop (textAt c)
 
 -- ---- the whole file
 
-module _ (s : Score) (h : Fit s) where
-  counts-file : countsOf (fileOf s) ≡ countsOn s
-  unfolding fileOf
-  counts-file = counts-read (fileOf s) (countsOn s) _ (h .counted) refl
+pub counts-file : (s : Score) → Counted (countsOn s) → countsOf (fileOf s) ≡ countsOn s
+unfolding fileOf
+counts-file s k = counts-read (fileOf s) (countsOn s) _ k refl
 
+module _ (s : Score) (h : Fit s) where
   at-events : drop eventsAt (fileOf s) ≡ durationBytes (s .durations) ++ (itemBytes (page (s .items)) ++ (entriesBytes (s .messages .entries) ++ s .messages .text))
   unfolding fileOf
   at-events = contents-rest (fileOf s) (countsOn s) _ (h .counted) refl
@@ -113,39 +111,14 @@ module _ (s : Score) (h : Fit s) where
   -- The file of a score whose numbers fit says this score.
   pub decode-file : decode (fileOf s) ≡ pieceOf s
   unfolding decode pieceOf
-  decode-file = rw (counts-file, durations-file, items-file, labels-file)
+  decode-file = rw (counts-file s (h .counted), durations-file, items-file, labels-file)
 
 -- ---- the file has bytes only
-
-durations-bytes : {ds : List ℕ} → FitDurations ds → Bytes (durationBytes ds)
-unfolding durationBytes
-durations-bytes no-duration = empty
-durations-bytes (fit-duration {d = d} p r) = bytes-append (le32-bytes d p) (durations-bytes r)
-
-items-bytes : {is : List Item} → FitItems is → Bytes (itemBytes is)
-unfolding itemBytes
-items-bytes no-item = empty
-items-bytes (fit-item {i = i} r rs) =
-    let delay = le32-bytes (i .delay .0) (r .delay) in
-    let event = le16-bytes (i .event) (r .event) in
-    let last = le16-bytes (i .last) (r .last) in
-    byte (r .kind) (byte (r .synchrony) (byte (r .error) (byte (r .part) (bytes-append delay (bytes-append event (bytes-append last (items-bytes rs)))))))
 
 entries-bytes : {es : List Entry} → FitEntries es → Bytes (entriesBytes es)
 unfolding entriesBytes
 entries-bytes no-entry = empty
 entries-bytes (fit-entry {e = e} p q r) = bytes-append (le16-bytes (e .start) p) (bytes-append (le16-bytes (e .size) q) (entries-bytes r))
-
-contents-bytes : (c : Counts) → Counted c → Bytes (contentsBytes c)
-unfolding contentsBytes
-contents-bytes c k =
-    bytes-append (le32-bytes eventsAt (omega arith))
-    (bytes-append (le32-bytes (c .events) (omega arith))
-    (bytes-append (le32-bytes (itemsAt c) (omega arith))
-    (bytes-append (le32-bytes (c .items) (omega arith))
-    (bytes-append (le32-bytes (messagesAt c) (omega arith))
-    (bytes-append (le32-bytes (c .messages) (omega arith))
-    (bytes-append (le32-bytes (textAt c) (omega arith)) (le32-bytes (c .text) (omega arith))))))))
 
 pub file-bytes : (s : Score) → Fit s → (i : ℕ) → getD (fileOf s) i 0 < 256
 unfolding fileOf
@@ -154,10 +127,6 @@ file-bytes s h =
     bytes-append (contents-bytes (countsOn s) (h .counted))
     (bytes-append (durations-bytes (h .durations)) (bytes-append (items-bytes (h .items)) (bytes-append (entries-bytes (h .entries)) (h .text))))
     )
-
-contents-size : (c : Counts) → length (contentsBytes c) ≡ contentsSize
-unfolding contentsBytes le32 le16
-contents-size c = refl
 
 -- It is as long as its contents say.
 pub file-size : (s : Score) → length (fileOf s) ≡ sizeOf (countsOn s)

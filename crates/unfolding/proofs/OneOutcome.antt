@@ -7,7 +7,7 @@ use Prim.Native.Nat.{ℕ, zero, suc, _+_, _*_, _<_, _≤_}
 use native.Mathlib.Omega.{arith}
 use lib.Dec.{leb}
 use lib.ListN.{length, drop, take, length-append, length-drop}
-use borrow.Author.Tests.{leb-true, le-leb, lt-leb, eq-eqb}
+use borrow.Author.Tests.{leb-true, le-leb, lt-leb}
 use Rattle.page.specs.declared.Item.{Item}
 use Rattle.base.specs.Tests.{pick}
 use Rattle.base.specs.Checks.{Check, fine, refused, need, firstFault}
@@ -17,7 +17,7 @@ use Rattle.contents.specs.declared.Fault.the-variants.{BadEvent, BadItem, BadMe
 use Rattle.contents.specs.declared.Counts.{Counts}
 use Rattle.contents.specs.Limits.{contentsSize, eventSize, itemSize, messageSize, longestScore}
 use Rattle.contents.specs.Bytes.{u16At}
-use Rattle.contents.specs.Contents.{offsetsOf, countsOf, countsRight, offsetsRight, eventsAt, itemsAt, messagesAt, textAt, sizeOf}
+use Rattle.contents.specs.Contents.{offsetsOf, countsOf, countsRight, offsetsRight, eventsAt, itemsAt, messagesAt}
 use Rattle.contents.specs.Inner.{Counted}
 use Rattle.contents.specs.Replies.{faultRow}
 use Rattle.items.specs.declared.walk.Walk.{Walk}
@@ -28,7 +28,8 @@ use Rattle.messages.specs.Messages.{messagesRight}
 use Rattle.score.specs.Events.{eventsRight}
 use Rattle.score.specs.Piece.{decode}
 use Rattle.score.specs.File.{bodiesRight, checked}
-use Rattle.score.proofs.EncodingReads.{offsetsIn, counts-read, offsets-read}
+use Rattle.score.proofs.EncodingReads.{offsetsIn, offsets-read}
+use Rattle.score.proofs.EncodingPieces.{offsets-right}
 use Rattle.extended.specs.Right.{extendedRight}
 use Rattle.unfolding.specs.declared.Unfolding.{Unfolding}
 use Rattle.unfolding.specs.declared.Unfolding.the-variants.{Made, NoRoom, BadExtended, OverLimit, BadFile}
@@ -37,7 +38,7 @@ use Rattle.unfolding.specs.Sizes.{Score, scoreOf, countsOn, withinLimits
 use Rattle.unfolding.specs.Answers.{unfoldedFile, judged, answered, unfoldAnswer, roomLeft}
 use Rattle.unfolding.specs.Replies.{unfoldRow}
 use Rattle.unfolding.proofs.Fitting.{limits-counted}
-use Rattle.unfolding.proofs.FileLaws.{file-size}
+use Rattle.unfolding.proofs.FileLaws.{counts-file, file-size}
 
 -- ---- one outcome
 
@@ -96,23 +97,15 @@ limit-told = refl
 
 -- ---- the contents of what is made are right
 
-offsets-right : (c : Counts) → offsetsRight (offsetsIn c) c (sizeOf c) ≡ fine
-unfolding offsetsRight firstFault need
-offsets-right c = rw (eq-eqb (itemsAt c) _ refl, eq-eqb (messagesAt c) _ refl, eq-eqb (textAt c) _ refl, eq-eqb (sizeOf c) _ refl)
-
 module _ (s : Score) (k : Counted (countsOn s)) where
   file-long : leb contentsSize (length (fileOf s)) ≡ true
   file-long = le-leb contentsSize (length (fileOf s)) (omega (arith, file-size s))
-
-  counts-file : countsOf (fileOf s) ≡ countsOn s
-  unfolding fileOf
-  counts-file = counts-read (fileOf s) (countsOn s) _ k refl
 
   file-counts : countsRight (countsOf (fileOf s)) ≡ fine
   unfolding countsRight firstFault need
   file-counts =
       rw (
-        counts-file,
+        counts-file s k,
         between-in _ _ _ (k .some) (k .events),
         le-leb _ _ (k .items),
         le-leb _ _ (k .messages),
@@ -124,7 +117,7 @@ module _ (s : Score) (k : Counted (countsOn s)) where
   offsets-file = offsets-read (fileOf s) (countsOn s) _ k refl
 
   file-offsets : offsetsRight (offsetsOf (fileOf s)) (countsOf (fileOf s)) (length (fileOf s)) ≡ fine
-  file-offsets = rw (offsets-file, counts-file, file-size s) (offsets-right (countsOn s))
+  file-offsets = rw (offsets-file, counts-file s k, file-size s) (offsets-right (countsOn s))
 
   -- So the file check comes down to the bodies.
   pub bodies-decide : checked (fileOf s) ≡ bodiesRight (fileOf s) (countsOf (fileOf s))
