@@ -7,13 +7,10 @@ use Prim.Native.Nat.{ℕ, _+_, _<_, _≤_}
 use native.Mathlib.Omega.{arith}
 use lib.ListN.{length, getD, take, drop}
 use lib.Seq.{take-at, drop-at}
-use borrow.Author.Tests.{leb-true}
 use Rattle.page.specs.declared.Item.{Item}
 use Rattle.base.specs.Tests.{pick}
-use Rattle.base.proofs.TestLaws.{every-head, every-rest}
 use Rattle.contents.specs.declared.Counts.{Counts}
 use Rattle.contents.specs.Contents.{countsOf}
-use Rattle.contents.specs.Limits.{deepest}
 use Rattle.items.specs.declared.Setting.{Setting}
 use Rattle.items.specs.Items.{withinOf, ownOf, inside, next, outset}
 use Rattle.items.proofs.Walked.{Right, Walked, walked-item}
@@ -25,11 +22,12 @@ use Rattle.rules.specs.Rules.{Reading}
 use Rattle.rules.specs.Page.{entriesOf, entries, cues}
 use Rattle.unfolding.specs.Extended.{Extended, extendedOf}
 use Rattle.unfolding.specs.Unfolded.{Unfolded, items, depth, groupItem, page}
-use Rattle.unfolding.specs.Sizes.{Score, scoreOf, withinLimits}
+use Rattle.unfolding.specs.Sizes.{scoreOf, withinLimits}
 use Rattle.unfolding.specs.Answers.{unfoldedFile}
 use Rattle.unfolding.proofs.Shapes.{Kinds, at-end, at-action, at-group, unfolded-kinds}
 use Rattle.unfolding.proofs.CountLaws.{page-length}
 use Rattle.unfolding.proofs.FileLaws.{unfolded-items}
+use Rattle.unfolding.proofs.LimitLaws.{limits-held}
 use Rattle.repeats.specs.Tops.{tops}
 use Rattle.repeats.proofs.TopSequences.{Inner, inner-end, inner-action, inner-group, EventsNamed, named-end, named-action, named-group, page-tops}
 
@@ -96,10 +94,6 @@ module _ (c : Counts) where
 
 -- ---- an unfolded file that is accepted
 
-within-depth : (s : Score) → withinLimits s ≡ true → depth (s .items) ≤ deepest
-unfolding withinLimits
-within-depth s e = leb-true _ _ (every-head _ _ (every-rest _ _ (every-rest _ _ (every-rest _ _ (every-rest _ _ (every-rest _ _ e))))))
-
 score-kinds : (x : Extended) → Kinds (scoreOf x .items)
 unfolding scoreOf
 score-kinds x = unfolded-kinds _
@@ -119,7 +113,7 @@ module _ (f : List ℕ) (bytes : (i : ℕ) → getD f i 0 < 256) (within : withi
   pub unfolded-tops : entries (decode (unfoldedFile f) .items) ≡ tops (scoreOf (extendedOf f) .items)
   unfolded-tops =
       ap entries (unfolded-items f bytes within)
-      ∙ whole-tops (scoreOf (extendedOf f) .items) (score-kinds (extendedOf f)) unfolded-named (within-depth (scoreOf (extendedOf f)) within)
+      ∙ whole-tops (scoreOf (extendedOf f) .items) (score-kinds (extendedOf f)) unfolded-named (limits-held (scoreOf (extendedOf f)) within .shallow)
 
   -- So what is performed of it is what those sequences give.
   pub unfolded-cues : (R : Reading) → cues R (entries (decode (unfoldedFile f) .items)) ≡ cues R (tops (scoreOf (extendedOf f) .items))

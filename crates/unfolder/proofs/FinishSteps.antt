@@ -1,53 +1,47 @@
 -- From the bodies to the file and its answer, in the code's own terms.
 -- Assumes nothing.
-use mathlib.Core.Path.{_≡_, refl, sym, ap, _∙_}
-use mathlib.Core.Bool.{true}
-use mathlib.Core.List.{List, [], _∷_, _++_, append-assoc}
-use Prim.Native.Nat.{ℕ, zero, suc, _+_, _*_, _<_, _≤_}
+use mathlib.Core.Path.{_≡_, sym, ap, _∙_}
+use mathlib.Core.List.{List, _++_, append-assoc, append-nil}
+use Prim.Native.Nat.{ℕ, zero, suc, _+_, _*_, _≤_}
 use native.Mathlib.Numerals.{add-one}
 use native.Mathlib.Omega.{arith}
-use lib.ListN.{length, take, drop, length-append}
+use lib.ListN.{length, take}
 use lib.Seq.{length-take-le}
 use borrow.Author.Needs.{needs}
-use borrow.Author.Tests.{leb-true}
 use Rattle.base.specs.Tests.{pick}
-use Rattle.base.specs.Checks.{fine, refused}
-use Rattle.base.proofs.TestLaws.{every-head, every-rest, between-low, between-high}
 use Rattle.ascii.specs.Laying.{Laid}
 use Rattle.ascii.proofs.LayLaws.{laid-join, laid-nothing}
 use Rattle.contents.specs.declared.Counts.{Counts}
 use Rattle.contents.specs.declared.Fault.{Fault}
 use Rattle.contents.specs.declared.Verdict.{Verdict}
 use Rattle.contents.specs.declared.Verdict.the-variants.{Fine, Refused}
-use Rattle.contents.specs.Limits.{eventSize, itemSize, messageSize, mostEvents, longestScore}
+use Rattle.contents.specs.Limits.{eventSize, mostEvents, longestScore}
 use Rattle.contents.specs.Bytes.{u32At}
 use Rattle.contents.specs.Inner.{Counted}
 use Rattle.contents.proofs.Verdicts.{verdict-fine, verdict-refused}
 use Rattle.score.specs.Events.{durationsAt}
-use Rattle.score.specs.Encode.{le32, contentsBytes, durationBytes, itemBytes}
+use Rattle.score.specs.Encode.{le32, durationBytes}
 use Rattle.score.specs.File.{checked}
 use Rattle.score.proofs.Decoded.{durations-length}
-use Rattle.score.proofs.EncodingPieces.{contents-size, durations-size}
+use Rattle.score.proofs.EncodingPieces.{durations-size}
 use Rattle.filing.specs.Pieces.{filed}
-use Rattle.filing.specs.Bodies.{PageRoom, Bodies, fileIn, settled, Settled}
+use Rattle.filing.specs.Bodies.{Bodies, fileIn, settled, Settled}
 use Rattle.extended.specs.Layout.{eventsStart, extentOf}
 use Rattle.unfolding.specs.declared.Unfolding.{Unfolding}
 use Rattle.unfolding.specs.declared.Unfolding.the-variants.{Made, BadFile}
-use Rattle.unfolding.specs.Messages.{entriesBytes}
 use Rattle.unfolding.specs.Extended.{extendedOf}
 use Rattle.unfolding.specs.Unfolded.{items, page}
-use Rattle.unfolding.specs.Sizes.{Score, scoreOf, countsOn, withinLimits, fileOf}
+use Rattle.unfolding.specs.Sizes.{scoreOf, countsOn, fileOf}
 use Rattle.unfolding.specs.Answers.{judged, answered, roomLeft, unfoldedFile}
+use Rattle.unfolding.proofs.LimitLaws.{limits-counted}
+use Rattle.unfolding.proofs.OneOutcome.{made-short}
 use Rattle.unfolder.specs.Inner.{Answers, Settles, scoreIn, Built}
 
 -- ---- the durations
 
 durations-suc : (f : List ℕ) (at n : ℕ) → durationBytes (durationsAt f at (suc n)) ≡ durationBytes (durationsAt f at n) ++ le32 (u32At f (at + eventSize * n))
 unfolding durationsAt durationBytes
-durations-suc f at zero = let z : at + eventSize * 0 ≡ at = omega arith in rw z (append-none (le32 (u32At f at))) where
-  append-none : (l : List ℕ) → l ++ [] ≡ l
-  append-none [] = refl
-  append-none (x ∷ l) = ap (λ (m : List ℕ). x ∷ m) (append-none l)
+durations-suc f at zero = let z : at + eventSize * 0 ≡ at = omega arith in rw z (append-nil (le32 (u32At f at)))
 durations-suc f at (suc n) =
     let z : at + eventSize + eventSize * n ≡ at + eventSize * suc n = omega arith in
     ap (λ (l : List ℕ). le32 (u32At f at) ++ l) (rw z at (durations-suc f (at + eventSize) n))
@@ -86,32 +80,6 @@ pub ruleset settles = (settle-refused, settle-made, needs)
 
 -- ---- the file
 
-limits-counted : (s : Score) → withinLimits s ≡ true → Counted (countsOn s)
-unfolding withinLimits countsOn
-limits-counted s e =
-    let e₁ = every-rest _ _ e in
-    let e₂ = every-rest _ _ e₁ in
-    let e₃ = every-rest _ _ e₂ in
-    let e₄ = every-rest _ _ e₃ in
-    record {
-      some = between-low _ _ _ (every-head _ _ e);
-      events = between-high _ _ _ (every-head _ _ e);
-      items = leb-true _ _ (every-head _ _ e₁);
-      messages = leb-true _ _ (every-head _ _ e₃);
-      text = leb-true _ _ (every-head _ _ e₄);
-    }
-
-file-size : (c : Counts) (d m e l out : List ℕ) → Bodies c d m e l out → length (fileIn c d m e l) ≤ longestScore
-unfolding fileIn filed
-file-size c d m e l out b =
-    let k = b .counted in
-    let a₁ = length-take-le (eventSize * c .events) d (omega (arith, k .events, b .page .durations)) in
-    let a₂ = length-take-le (itemSize * c .items) m (omega (arith, k .items, b .page .items)) in
-    let a₃ = length-take-le (messageSize * c .messages) e (omega (arith, k .messages, b .list .entries)) in
-    let a₄ = length-take-le (c .text) l (omega (arith, k .text, b .list .labels)) in
-    let z = contents-size c in
-    simp (length-append, z, a₁, a₂, a₃, a₄) (omega (arith, k .events, k .items, k .messages, k .text))
-
 durations-front : (f : List ℕ) (n : ℕ) (o d : List ℕ) (at : ℕ) → Laid o 0 (durationBytes (durationsAt f eventsStart n)) d at
     → take (eventSize * n) d ≡ durationBytes (durationsAt f eventsStart n)
 durations-front f n o d at laid =
@@ -148,10 +116,11 @@ module _ (f : List ℕ) (k : Counts) (is es ls : List ℕ) (asked : Built f k is
         rw (a, b, asked .items, asked .entries, asked .labels, asked .counts)
 
     pub make-room : (file′ m : List ℕ) (size : ℕ) → Laid file 0 (fileIn k d is es ls) file′ size → longestScore ≤ length m → length (take size file′) ≤ length m
+    unfolding scoreIn
     make-room file′ m size put r =
         let t = length-take-le size file′ (put .within) in
         let s : size ≡ 0 + length (fileIn k d is es ls) = put .stop in
-        omega (arith, file-size k d is es ls file make-bodies)
+        omega (arith, ap length made-file, made-short f (asked .limits))
 
     pub make-told : (file′ m m′ : List ℕ) (size : ℕ) (r : Unfolding) → Laid file 0 (fileIn k d is es ls) file′ size → Settles (take size file′) m m′ r → Answers f m m′ r
     unfolding answered pick scoreIn

@@ -1,27 +1,24 @@
 -- The steps of numbering the values and laying the page, in the code's own terms.
 -- Assumes nothing.
-use mathlib.Core.Path.{_≡_, refl, sym, ap, _∙_}
-use mathlib.Core.Bool.{Bool, true, false}
+use mathlib.Core.Path.{_≡_, sym, ap}
+use mathlib.Core.Bool.{true, false}
 use mathlib.Core.List.{List, map}
-use Prim.Native.Nat.{ℕ, _+_, _*_, _<_, _≤_}
+use Prim.Native.Nat.{ℕ, _+_, _*_, _≤_}
 use native.Mathlib.Omega.{arith}
-use lib.ListN.{length, getD, take}
+use lib.ListN.{length, take}
 use borrow.Author.Needs.{needs}
 use Rattle.ascii.specs.Laying.{Laid}
 use Rattle.contents.specs.declared.Counts.{Counts}
-use Rattle.contents.specs.Limits.{eventSize, itemSize, messageSize, mostItems, mostActions, mostMessages, mostText, deepest}
+use Rattle.contents.specs.Limits.{itemSize, mostItems, mostActions, deepest}
 use Rattle.score.specs.Encode.{itemBytes}
 use Rattle.filing.specs.Bodies.{ListRoom}
 use Rattle.values.specs.Inner.{valueOf}
 use Rattle.extended.specs.declared.Extent.{Extent}
-use Rattle.extended.specs.Layout.{foldedSize, eventsStart, itemsStart, wholeSize}
-use Rattle.extended.specs.Inner.{Foldable}
-use Rattle.shapes.specs.Limits.{rowWords}
+use Rattle.extended.specs.Layout.{foldedSize, itemsStart, wholeSize}
 use Rattle.shapes.specs.Shapes.{shapesFrom}
-use Rattle.tables.specs.Tables.{itemsIn, pointsIn, valuesIn, tableIn, Valued}
+use Rattle.tables.specs.Tables.{itemsIn, pointsIn, valuesIn, Valued}
 use Rattle.tables.proofs.ValueLaws.{valued-below}
 use Rattle.unfolding.specs.declared.Unfolding.the-variants.{OverLimit}
-use Rattle.unfolding.specs.Messages.{withValues, numbersOf}
 use Rattle.unfolding.specs.Extended.{extendedOf, numbered}
 use Rattle.unfolding.specs.Unfolded.{unfolded, items, actions, depth, page}
 use Rattle.unfolding.specs.Sizes.{countsOn, withinLimits}
@@ -33,8 +30,9 @@ use Rattle.naming.proofs.Told.{told-over, told-named, told-numbers}
 use Rattle.building.specs.Rows.{numberedIn, shapesOf}
 use Rattle.building.proofs.RowLaws.{numbered-here, shapes-read}
 use Rattle.building.proofs.PageLaws.{bytes-length}
+use Rattle.unfolding.proofs.LimitLaws.{Limits, limits-held, limits-hold}
 use Rattle.unfolder.specs.Inner.{Answers, scoreIn, Built, Measured, Nameable, Listed}
-use Rattle.unfolder.proofs.ScoreLaws.{Limits, limits-held, limits-hold, over-limit, items-are, messages-are, events-are, few-is, rows-are}
+use Rattle.unfolder.proofs.ScoreLaws.{over-limit, items-are, messages-are, events-are, few-is, rows-are}
 
 -- ---- the values
 

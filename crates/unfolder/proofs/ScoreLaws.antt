@@ -1,18 +1,17 @@
 -- What the counts, the table and the list that were found say of the unfolded score and its limits.
 -- Assumes nothing.
-use mathlib.Core.Path.{_≡_, refl, sym, ap, _∙_}
+use mathlib.Core.Path.{_≡_, refl, ap, _∙_}
 use mathlib.Core.Bool.{Bool, true, false}
-use mathlib.Core.List.{List, [], _∷_, _++_}
-use Prim.Native.Nat.{ℕ, zero, suc, _+_, _*_, _<_, _≤_}
+use mathlib.Core.List.{List, [], _∷_}
+use Prim.Native.Nat.{ℕ, _+_, _*_, _≤_}
 use native.Mathlib.Omega.{arith}
-use lib.Dec.{leb}
 use lib.ListN.{length, take, drop, length-drop}
 use lib.Seq.{length-take-le}
 use borrow.Author.Tests.{leb-true, le-leb}
-use Rattle.base.specs.Tests.{pick, every, between}
+use Rattle.base.specs.Tests.{pick, every}
 use Rattle.base.specs.Checks.{fine}
 use Rattle.base.proofs.TestLaws.{every-head, every-rest, between-low, between-high, between-in}
-use Rattle.contents.specs.Limits.{mostEvents, mostItems, mostActions, mostMessages, mostText, deepest}
+use Rattle.contents.specs.Limits.{mostEvents, mostItems, mostMessages, mostText}
 use Rattle.contents.specs.Bytes.{part}
 use Rattle.score.proofs.Decoded.{durations-length}
 use Rattle.values.specs.Curves.{Point}
@@ -28,55 +27,17 @@ use Rattle.extended.proofs.ListLaws.{folded-length}
 use Rattle.unfolding.specs.declared.Unfolding.the-variants.{OverLimit}
 use Rattle.unfolding.specs.Messages.{withValues}
 use Rattle.unfolding.specs.Extended.{extendedOf, numbered}
-use Rattle.unfolding.specs.Unfolded.{unfolded, items, actions, depth}
-use Rattle.unfolding.specs.Sizes.{Score, scoreOf, withinLimits}
+use Rattle.unfolding.specs.Unfolded.{unfolded, items, actions}
+use Rattle.unfolding.specs.Sizes.{scoreOf, withinLimits}
 use Rattle.unfolding.specs.Answers.{answered, roomLeft}
 use Rattle.unfolding.proofs.MessageLaws.{grown-values, entries-grow, text-grows, entries-length}
 use Rattle.building.specs.Rows.{timesOf, Rows, rowsOf}
 use Rattle.building.proofs.LeastLaws.{items-least, actions-least}
 use Rattle.building.proofs.RowLaws.{rows-laid}
+use Rattle.unfolding.proofs.LimitLaws.{Limits, limits-held}
 use Rattle.unfolder.specs.Inner.{Answers, scoreIn, few}
 
--- ---- the limits, one by one
-
-pub record Limits (s : Score) : Type 0 where
-  pub some : 1 ≤ length (s .durations)
-  pub events-few : length (s .durations) ≤ mostEvents
-  pub items-few : items (s .items) ≤ mostItems
-  pub actions-few : actions (s .items) ≤ mostActions
-  pub messages-few : length (s .messages .entries) ≤ mostMessages
-  pub text-short : length (s .messages .text) ≤ mostText
-  pub shallow : depth (s .items) ≤ deepest
-
-pub limits-held : (s : Score) → withinLimits s ≡ true → Limits s
-unfolding withinLimits
-limits-held s e =
-    let e₁ = every-rest _ _ e in
-    let e₂ = every-rest _ _ e₁ in
-    let e₃ = every-rest _ _ e₂ in
-    let e₄ = every-rest _ _ e₃ in
-    let e₅ = every-rest _ _ e₄ in
-    record {
-      some = between-low _ _ _ (every-head _ _ e);
-      events-few = between-high _ _ _ (every-head _ _ e);
-      items-few = leb-true _ _ (every-head _ _ e₁);
-      actions-few = leb-true _ _ (every-head _ _ e₂);
-      messages-few = leb-true _ _ (every-head _ _ e₃);
-      text-short = leb-true _ _ (every-head _ _ e₄);
-      shallow = leb-true _ _ (every-head _ _ e₅);
-    }
-
-pub limits-hold : (s : Score) → Limits s → withinLimits s ≡ true
-unfolding withinLimits every
-limits-hold s l =
-    rw (
-      between-in 1 mostEvents (length (s .durations)) (l .some) (l .events-few),
-      le-leb (items (s .items)) mostItems (l .items-few),
-      le-leb (actions (s .items)) mostActions (l .actions-few),
-      le-leb (length (s .messages .entries)) mostMessages (l .messages-few),
-      le-leb (length (s .messages .text)) mostText (l .text-short),
-      le-leb (depth (s .items)) deepest (l .shallow),
-    )
+-- ---- the limits
 
 -- a score that is not within them is told so, and the room stays
 pub over-limit : (f m : List ℕ) → (Limits (scoreIn f) → ⊥) → Answers f m m OverLimit

@@ -1,9 +1,9 @@
 -- The steps of finding the sizes, in the code's own terms.
 -- Assumes nothing.
-use mathlib.Core.Path.{_≡_, refl, sym, ap, _∙_}
+use mathlib.Core.Path.{_≡_, sym, _∙_}
 use mathlib.Core.Bool.{Bool, true, false, not}
 use mathlib.Core.List.{List}
-use Prim.Native.Nat.{ℕ, _*_, _<_, _≤_}
+use Prim.Native.Nat.{ℕ, _*_, _≤_}
 use native.Mathlib.Omega.{arith}
 use lib.ListN.{length, take}
 use borrow.Author.Needs.{needs}
@@ -11,7 +11,7 @@ use borrow.Author.Tests.{leb-true}
 use Rattle.base.specs.Checks.{fine}
 use Rattle.base.proofs.TestLaws.{told-true, told-false, every-head}
 use Rattle.ascii.specs.Laying.{Laid}
-use Rattle.contents.specs.Limits.{mostItems, mostActions, deepest}
+use Rattle.contents.specs.Limits.{mostItems}
 use Rattle.extended.specs.declared.Extent.{Extent}
 use Rattle.extended.specs.Layout.{extendedContents, extentOf, itemsStart, contentsRight}
 use Rattle.extended.specs.Right.{extendedRight}
@@ -27,14 +27,14 @@ use Rattle.shapes.specs.Sizes.{sizesOf}
 use Rattle.shapes.proofs.SizeLaws.{within-exact, over-exact}
 use Rattle.tables.specs.declared.Table.{Table}
 use Rattle.tables.specs.declared.Table.the-variants as table
-use Rattle.tables.specs.Tables.{itemsIn, pointsIn, valuesIn, tableIn, Tabled}
+use Rattle.tables.specs.Tables.{pointsIn, tableIn, Tabled}
 use Rattle.tables.proofs.TableLaws.{filled-few, filled-laid, over-many}
 use Rattle.unfolding.specs.declared.Unfolding.the-variants.{OverLimit}
 use Rattle.unfolding.specs.Extended.{extendedOf}
 use Rattle.unfolding.specs.Unfolded.{items, actions, depth}
 use Rattle.building.proofs.RowLaws.{items-here, actions-here, depth-here}
 use Rattle.unfolder.specs.Inner.{Answers, scoreIn, few, Sizable, Measured}
-use Rattle.unfolder.proofs.ScoreLaws.{Limits, over-limit, items-are, values-least, few-held, Few, few-is, rows-are}
+use Rattle.unfolder.proofs.ScoreLaws.{over-limit, items-are, values-least, few-held, few-is, rows-are}
 
 -- ---- the counts
 

@@ -8,10 +8,9 @@ use native.Mathlib.Omega.{arith}
 use lib.Dec.{ltb}
 use lib.IntN.{ℤ, pos, negsuc}
 use lib.ListN.{length, getD, take, drop, length-append}
-use borrow.Author.Tests.{leb-true}
 use Rattle.page.specs.declared.Item.{Item}
 use Rattle.base.specs.Tests.{pick}
-use Rattle.base.proofs.TestLaws.{every-head, every-rest, between-low, between-high}
+use Rattle.base.proofs.TestLaws.{every-head, every-rest, between-high}
 use Rattle.ascii.specs.Words.{zeroDigit, nineDigit}
 use Rattle.ascii.specs.Numbers.{isDigit, allDigits}
 use Rattle.ascii.specs.Decimals.{decimal}
@@ -32,6 +31,7 @@ use Rattle.unfolding.specs.Messages.{Entry, Messages, entriesFrom, numbe
 use Rattle.unfolding.specs.Extended.{extendedOf, Numbered, numberedBy, numbered}
 use Rattle.unfolding.specs.Unfolded.{Unfolded, end, action, group, passItem, sendItem, passes, sends, insideOf, becomes, withinOf, unfoldedTo, unfolded, items, groupItem, page}
 use Rattle.unfolding.specs.Sizes.{Score, scoreOf, countsOn, withinLimits}
+use Rattle.unfolding.proofs.LimitLaws.{limits-counted}
 use Rattle.unfolding.proofs.MessageLaws.{grown-values, values-append, entries-grow, text-grows, AllNamed, no-number, number, values-named}
 
 -- ---- what is read from bytes
@@ -258,20 +258,6 @@ pub record Fit (s : Score) : Type 0 where
   pub items : FitItems (page (s .items))
   pub entries : FitEntries (s .messages .entries)
   pub text : Bytes (s .messages .text)
-
-pub limits-counted : (s : Score) → withinLimits s ≡ true → Counted (countsOn s)
-unfolding withinLimits countsOn
-limits-counted s e =
-    let e₁ = every-rest _ _ e in
-    let e₃ = every-rest _ _ (every-rest _ _ e₁) in
-    let events = every-head _ _ e in
-    record {
-      some = between-low _ _ _ events;
-      events = between-high _ _ _ events;
-      items = leb-true _ _ (every-head _ _ e₁);
-      messages = leb-true _ _ (every-head _ _ e₃);
-      text = leb-true _ _ (every-head _ _ (every-rest _ _ e₃));
-    }
 
 -- An extended file of bytes whose unfolded score is within the limits unfolds to a score whose numbers fit.
 pub score-fits : (f : List ℕ) → ((i : ℕ) → getD f i 0 < 256) → withinLimits (scoreOf (extendedOf f)) ≡ true → Fit (scoreOf (extendedOf f))

@@ -6,6 +6,7 @@ pub mod CurveItems
 pub mod MessageLaws
 pub mod Nesting
 pub mod SelfLaws
+pub mod LimitLaws
 pub mod Fitting
 pub mod FileLaws
 pub mod OneOutcome

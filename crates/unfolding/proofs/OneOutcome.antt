@@ -37,7 +37,7 @@ use Rattle.unfolding.specs.Extended.{extendedOf}
 use Rattle.unfolding.specs.Sizes.{Score, scoreOf, countsOn, withinLimits, fileOf}
 use Rattle.unfolding.specs.Answers.{unfoldedFile, judged, answered, unfoldAnswer, roomLeft}
 use Rattle.unfolding.specs.Replies.{unfoldRow}
-use Rattle.unfolding.proofs.Fitting.{limits-counted}
+use Rattle.unfolding.proofs.LimitLaws.{limits-counted}
 use Rattle.unfolding.proofs.FileLaws.{counts-file, file-size}
 
 -- ---- one outcome

@@ -8,15 +8,14 @@ use native.Mathlib.Omega.{arith}
 use lib.Dec.{eqb}
 use lib.ListN.{length, getD, take, drop, length-append, List·getD-map}
 use lib.Seq.{take-at, drop-at}
-use borrow.Author.Tests.{le-leb, eqb-true, eqb-false}
+use borrow.Author.Tests.{eqb-true, eqb-false}
 use Rattle.page.specs.declared.Item.{Item}
-use Rattle.base.specs.Tests.{pick, every}
-use Rattle.base.proofs.TestLaws.{between-in}
+use Rattle.base.specs.Tests.{pick}
 use Rattle.base.specs.Only.{only}
 use Rattle.base.proofs.OnlyLaws.{only-in, only-out}
 use Rattle.base.specs.Checks.{fine, need, firstFault}
 use Rattle.contents.specs.declared.Counts.{Counts}
-use Rattle.contents.specs.Limits.{longestScore, mostEvents, mostItems, mostActions, mostMessages, mostText, deepest}
+use Rattle.contents.specs.Limits.{longestScore, mostActions, deepest}
 use Rattle.contents.specs.Inner.{Counted}
 use Rattle.contents.proofs.ContentsLaws.{counts-held}
 use Rattle.items.specs.declared.Setting.{Setting}
@@ -43,6 +42,7 @@ use Rattle.unfolding.specs.Unfolded.{Unfolded, becomes, withinOf as with
 use Rattle.unfolding.specs.Sizes.{Score, scoreOf, countsOn, withinLimits}
 use Rattle.unfolding.specs.Answers.{unfoldedFile, unfoldAnswer}
 use Rattle.extended.proofs.RightLaws.{right-nests}
+use Rattle.unfolding.proofs.LimitLaws.{limits-hold}
 use Rattle.unfolding.proofs.Nesting.{Ends}
 use Rattle.unfolding.proofs.SelfLaws.{bare, itemIn, held-is, map-length, same-numbered, same-items, ownCounts, same-counts, unfolds-to-itself}
 use Rattle.unfolding.proofs.Shapes.{unfolded-none, unfolded-more}
@@ -234,21 +234,22 @@ module _ (p : Piece) (l : Lawful p) where
       omega (arith, ap depth d, walked-depth (w .1) (omega arith))
 
   plain-within : withinLimits (scoreOf (extendedOf (plainFile p))) ≡ true
-  unfolding withinLimits countsOn every
+  unfolding countsOn
   plain-within =
       let k = held-counts in
       let e : length (score .durations) ≡ countsIn p .events = ap (λ (c : Counts). c .events) score-counts in
       let i : items (score .items) ≡ countsIn p .items = ap (λ (c : Counts). c .items) score-counts in
       let m : length (score .messages .entries) ≡ countsIn p .messages = ap (λ (c : Counts). c .messages) score-counts in
       let t : length (score .messages .text) ≡ countsIn p .text = ap (λ (c : Counts). c .text) score-counts in
-      rw (
-        between-in 1 mostEvents (length (score .durations)) (omega (arith, k .some)) (omega (arith, k .events)),
-        le-leb (items (score .items)) mostItems (omega (arith, k .items)),
-        le-leb (actions (score .items)) mostActions score-actions,
-        le-leb (length (score .messages .entries)) mostMessages (omega (arith, k .messages)),
-        le-leb (length (score .messages .text)) mostText (omega (arith, k .text)),
-        le-leb (depth (score .items)) deepest score-depth,
-      )
+      limits-hold score (record {
+        some = omega (arith, k .some);
+        events-few = omega (arith, k .events);
+        items-few = omega (arith, k .items);
+        actions-few = score-actions;
+        messages-few = omega (arith, k .messages);
+        text-short = omega (arith, k .text);
+        shallow = score-depth;
+      })
 
   -- The call grants it: the file's own bytes are made.
   pub plain-made : (room : ℕ) → longestScore ≤ room → unfoldAnswer room (plainFile p) ≡ Made (length (encode p))
