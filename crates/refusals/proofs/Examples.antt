@@ -14,9 +14,13 @@ use Rattle.contents.specs.declared.Fault.the-variants.{FileShort, BadCount, Bad
 use Rattle.session.specs.Replies.{refusalRow}
 use Rattle.session.specs.declared.Refusal.the-variants.{File, BadTempo}
 use Rattle.refusals.specs.declared.entries.Entry.the-variants.{Nowhere, Contents, Event, Item, Message}
-use Rattle.wording.specs.Words.{faultWords, refusalWords, faultPlaced, placed}
+use Rattle.wording.specs.Words.{faultWords, refusalWords, extendedWords, unfoldingWords, faultPlaced, placed}
 use Rattle.refusals.specs.Entries.{entryAt, entryOf, fieldWords, entryWords}
 use Rattle.refusals.specs.Line.{atByte, placeWords, whereWords, refusalLine}
+use Rattle.extended.specs.Layout.{extentOf}
+use Rattle.unfolding.specs.declared.Unfolding.the-variants.{BadExtended, OverLimit}
+use Rattle.unfolding.specs.Replies.{unfoldRow}
+use Rattle.refusals.specs.Unfolds.{foldedEntry, foldedPlace, foldedWhere, foldedEnd, foldedLine}
 
 -- A file's contents: 3 events from byte 32 on, 7 items from 44 on, 2 messages from 128 on, 5 bytes of text from 136 on.
 unfoldable pub contents : List ℕ
@@ -75,3 +79,26 @@ pub each-table : (entryAt counts 31 ∷ entryAt counts 32 ∷ entryAt counts 43 
     ≡ (Contents 7 ∷ Event 1 ∷ Event 3 ∷ Item 0 ∷ Item 6 ∷ Message 0 ∷ Message 1 ∷ Nowhere ∷ [])
 unfolding counts pick entryAt
 each-table = refl
+
+-- ---- an extended score: 3 events from byte 40 on, 2 items from 52 on, no messages, text and points from 92 on
+
+unfoldable pub folded : List ℕ
+folded =
+    40 ∷ 0 ∷ 0 ∷ 0 ∷ 3 ∷ 0 ∷ 0 ∷ 0
+    ∷ 52 ∷ 0 ∷ 0 ∷ 0 ∷ 2 ∷ 0 ∷ 0 ∷ 0
+    ∷ 92 ∷ 0 ∷ 0 ∷ 0 ∷ 0 ∷ 0 ∷ 0 ∷ 0
+    ∷ 92 ∷ 0 ∷ 0 ∷ 0 ∷ 0 ∷ 0 ∷ 0 ∷ 0
+    ∷ 92 ∷ 0 ∷ 0 ∷ 0 ∷ 0 ∷ 0 ∷ 0 ∷ 0
+    ∷ []
+
+pub bad-folded : foldedLine (bytesOf "loops.ext") folded (BadExtended 72) ≡ bytesOf "loops.ext: refused 17 at byte 72, item 1: an item that can't be unfolded\n"
+unfolding folded pick digitsOf decimal u16At u32At extentOf unfoldRow extendedWords unfoldingWords entryWords atByte foldedEntry foldedPlace foldedWhere foldedEnd foldedLine
+bad-folded = refl
+
+pub bad-extended : foldedLine (bytesOf "loops.ext") folded (BadExtended 0) ≡ bytesOf "loops.ext: refused 17: bad extended contents; also points left over\n"
+unfolding folded pick digitsOf decimal u16At u32At extentOf unfoldRow extendedWords unfoldingWords entryWords atByte foldedEntry foldedPlace foldedWhere foldedEnd foldedLine
+bad-extended = refl
+
+pub over-limit : foldedLine (bytesOf "loops.ext") folded OverLimit ≡ bytesOf "loops.ext: refused 18: the unfolded score would break a limit\n"
+unfolding folded pick digitsOf decimal u16At u32At extentOf unfoldRow extendedWords unfoldingWords entryWords atByte foldedEntry foldedPlace foldedWhere foldedEnd foldedLine
+over-limit = refl
