@@ -5,3 +5,4 @@ pub mod NameLaws
 pub mod Examples
 pub mod TextLaws
 pub mod UnfoldLaws
+pub mod FoldedNamed
