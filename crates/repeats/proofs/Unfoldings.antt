@@ -25,7 +25,8 @@ use Rattle.unfolding.specs.Extended.{extendedOf}
 use Rattle.unfolding.specs.Sizes.{scoreOf}
 use Rattle.unfolding.specs.Answers.{unfoldedFile, unfoldAnswer}
 use Rattle.unfolding.proofs.GrantedLaws.{Granted, granted}
-use Rattle.unfolding.proofs.FileLaws.{pieceOf, unfolded-says}
+use Rattle.unfolding.specs.Pieces.{pieceOf}
+use Rattle.unfolding.proofs.FileLaws.{unfolded-says}
 
 -- ---- an extended score whose unfolding is granted
 

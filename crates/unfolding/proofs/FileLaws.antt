@@ -28,24 +28,13 @@ use Rattle.extended.specs.Right.{itemOf, extendedRight}
 use Rattle.unfolding.specs.Messages.{Entry, Messages, entriesBytes}
 use Rattle.unfolding.specs.Extended.{extendedOf}
 use Rattle.unfolding.specs.Unfolded.{items, page}
+use Rattle.unfolding.specs.Pieces.{labelIn, labelsIn, pieceOf}
 use Rattle.unfolding.specs.Sizes.{Score, scoreOf, countsOn, withinLimits, fileOf}
 use Rattle.unfolding.specs.Answers.{unfoldedFile}
 use Rattle.unfolding.proofs.CountLaws.{page-length}
 use Rattle.extended.proofs.RightLaws.{right-nests}
 use Rattle.unfolding.proofs.SelfLaws.{itemIn, same-items, same-messages, same-durations}
 use Rattle.unfolding.proofs.Fitting.{FitEntries, no-entry, fit-entry, Fit, score-fits}
-
--- ---- the piece that an unfolded score is
-
--- The bytes that an entry names in the text.
-unfoldable pub labelIn : (text : List ℕ) → Entry → List ℕ
-labelIn text e = part text (e .start) (e .size)
-
-unfoldable pub labelsIn : Messages → List (List ℕ)
-labelsIn m = map (labelIn (m .text)) (m .entries)
-
-unfoldable pub pieceOf : Score → Piece
-pieceOf s = record { durations = s .durations; items = page (s .items); labels = labelsIn (s .messages) }
 
 -- ---- the messages are read again
 

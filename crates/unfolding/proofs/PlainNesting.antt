@@ -26,7 +26,7 @@ use Rattle.extended.specs.Right.{plainRight, ownRight, itemOf, endOf, endsWithi
 use Rattle.unfolding.specs.Unfolded.{withinOf as within, items}
 use Rattle.extended.proofs.NestingLaws.{ends-within}
 use Rattle.unfolding.proofs.Nesting.{Ends, end-is}
-use Rattle.unfolding.proofs.PlainFiles.{plainItem}
+use Rattle.unfolding.specs.Plain.{plainItem}
 
 -- ---- an item that holds w others, those within it, and those after them
 

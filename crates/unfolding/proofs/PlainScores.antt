@@ -48,7 +48,8 @@ use Rattle.unfolding.proofs.SelfLaws.{bare, itemIn, held-is, map-length
 use Rattle.unfolding.proofs.Shapes.{unfolded-none, unfolded-more}
 use Rattle.unfolding.proofs.CountLaws.{only-append, page-actions, action-depth, group-depth}
 use Rattle.unfolding.proofs.OneOutcome.{file-made}
-use Rattle.unfolding.proofs.PlainFiles.{plainItem, plainExtent, plainFile, plain-extent, plain-contents, plain-durations, plain-items, plain-entries, plain-text}
+use Rattle.unfolding.specs.Plain.{plainItem, plainExtent, plainFile}
+use Rattle.unfolding.proofs.PlainFiles.{plain-extent, plain-contents, plain-durations, plain-items, plain-entries, plain-text}
 use Rattle.unfolding.proofs.PlainNesting.{At, plain-holds, lawful-ends, all-within, table-at, folds-fine}
 
 -- ---- its actions and its depth are within the limits

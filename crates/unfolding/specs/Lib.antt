@@ -5,3 +5,5 @@ pub mod Unfolded
 pub mod Sizes
 pub mod Answers
 pub mod Replies
+pub mod Pieces
+pub mod Plain
