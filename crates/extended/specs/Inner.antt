@@ -4,11 +4,12 @@ use mathlib.Core.Bool.{true}
 use mathlib.Core.List.{List, [], _∷_}
 use Prim.Native.Nat.{ℕ, _<_, _≤_}
 use lib.ListN.{length}
+use Rattle.base.specs.Tests.{pick}
 use Rattle.values.specs.Curves.{Point}
 use Rattle.extended.specs.declared.Extent.{Extent}
 use Rattle.extended.specs.declared.Folded.{Folded}
 use Rattle.extended.specs.Layout.{extendedContents, extentOf, itemsStart, pointsStart, wholeSize}
-use Rattle.extended.specs.Folds.{foldedFrom}
+use Rattle.extended.specs.Folds.{isCurve, foldedFrom}
 use Rattle.extended.specs.Points.{pointsFrom, pointsAfter}
 use Rattle.extended.specs.Right.{ownRight}
 
@@ -33,6 +34,10 @@ pub record SmallFolded (i : Folded) : Type 0 where
   pub last : i .item .last < 65536
   pub each : i .each < wordRange
   pub times : i .times < 65536
+
+-- How many points an item takes.
+unfoldable pub pointsOf : Folded → ℕ
+pointsOf i = pick (isCurve i) (i .times) 0
 
 -- Each item is right by itself, with the points that those before it leave.
 pub data Folds : List Point → List Folded → Type 0 where

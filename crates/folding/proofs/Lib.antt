@@ -1,5 +1,4 @@
 -- Laws of an extended score that can be unfolded, for the layers above, and the steps of its check.
-pub mod TakeLaws
 pub mod AnswerLaws
 pub mod RightLaws
 mod TableSteps

@@ -4,6 +4,7 @@ use mathlib.Core.Path.{_≡_, refl, _∙_, ap, subst}
 use mathlib.Core.Bool.{Bool, true, false, not}
 use mathlib.Core.List.{List, [], _∷_}
 use Prim.Native.Nat.{ℕ, _+_, _-_, _*_, _<_, _≤_}
+use native.Mathlib.Numerals.{add-one}
 use native.Mathlib.Omega.{arith}
 use lib.Dec.{ltb}
 use lib.ListN.{length, take}
@@ -15,11 +16,17 @@ use Rattle.extended.specs.declared.Extent.{Extent}
 use Rattle.extended.specs.declared.Folded.{Folded}
 use Rattle.extended.specs.Layout.{extentOf, itemsStart, pointsStart, wholeSize, foldedSize, pointSize}
 use Rattle.extended.specs.Folds.{foldedAt}
-use Rattle.extended.specs.Points.{pointsFrom, spansRight}
+use Rattle.extended.specs.Points.{pointsFrom, spansRight, pointsAfter}
 use Rattle.extended.specs.Right.{ownRight, itemOf}
 use Rattle.folding.specs.Inner.{Tabled, pointsOf, pointsLeft, FirstWrong}
 use Rattle.extended.proofs.ListLaws.{points-length, points-take}
-use Rattle.folding.proofs.TakeLaws.{takes-times, takes-none, takes-left, points-behind, points-next}
+use Rattle.extended.proofs.TakeLaws.{takes-times, takes-none, takes-left, points-behind}
+
+-- ---- the points left
+
+points-next : (f : List ℕ) (k : ℕ) → pointsLeft f (k + 1) ≡ pointsAfter (itemOf f k) (pointsLeft f k)
+unfolding pointsLeft
+points-next f k = rw add-one
 
 -- ---- a curve's rules, with so many points left
 

@@ -5,16 +5,15 @@ use mathlib.Core.List.{List, [], _∷_}
 use Prim.Native.Nat.{ℕ, zero, suc, _<_, _≤_}
 use lib.Dec.{eqb}
 use lib.ListN.{length}
-use Rattle.base.specs.Tests.{pick, every}
+use Rattle.base.specs.Tests.{every}
 use Rattle.contents.specs.Bytes.{u32At}
 use Rattle.values.specs.Curves.{Point}
 use Rattle.extended.specs.declared.Extent.{Extent}
-use Rattle.extended.specs.declared.Folded.{Folded}
 use Rattle.extended.specs.Layout.{extentOf, eventsStart, itemsStart, messagesStart, textStart, pointsStart, wholeSize}
-use Rattle.extended.specs.Folds.{isCurve}
 use Rattle.extended.specs.Points.{pointsFrom, pointsAfter}
 use Rattle.extended.specs.Right.{ownRight, itemOf, endOf, endsWithin}
 use Rattle.extended.specs.Inner.{SmallExtent}
+pub use Rattle.extended.specs.Inner.{pointsOf}
 
 -- The offsets and the length of a file with these counts.
 unfoldable pub tablesRight : List ℕ → Extent → Bool
@@ -35,10 +34,7 @@ pub record Tabled (f : List ℕ) (c : Extent) : Type 0 where
   pub small : SmallExtent c
   pub whole : length f ≡ wholeSize c
 
--- How many points an item takes, and the points that the first k items leave.
-unfoldable pub pointsOf : Folded → ℕ
-pointsOf i = pick (isCurve i) (i .times) 0
-
+-- The points that the first k items leave.
 unfoldable pub pointsLeft : List ℕ → ℕ → List Point
 pointsLeft f zero = pointsFrom f (pointsStart (extentOf f)) (extentOf f .points)
 pointsLeft f (suc k) = pointsAfter (itemOf f k) (pointsLeft f k)

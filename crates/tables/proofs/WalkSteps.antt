@@ -1,18 +1,17 @@
 -- The walk over the items: which item is next, that it is right with the points left, and which points it leaves.
 -- Assumes nothing.
-use mathlib.Core.Path.{_≡_, refl, sym, ap, _∙_}
-use mathlib.Core.Bool.{Bool, true, false}
+use mathlib.Core.Path.{_≡_, refl, ap, _∙_}
+use mathlib.Core.Bool.{true}
 use mathlib.Core.List.{List, [], _∷_, _++_}
 use Prim.Native.Nat.{ℕ, _+_, _-_, _*_, _<_, _≤_}
 use native.Mathlib.Omega.{arith}
-use lib.Dec.{eqb}
-use lib.ListN.{length, take, drop, length-append}
+use lib.ListN.{length, take, length-append}
 use mir.Syntax.{w64}
 use mir.Val.{Fits}
-use borrow.Author.Tests.{eq-eqb, ne-eqb, eqb-true, eqb-false}
+use borrow.Author.Tests.{eq-eqb, ne-eqb}
 use borrow.Author.Needs.{needs}
 use Rattle.base.specs.Tests.{pick}
-use Rattle.base.proofs.TestLaws.{every-head, every-rest, between-low, between-high}
+use Rattle.base.proofs.TestLaws.{every-head, every-rest, between-low}
 use Rattle.contents.specs.Bytes.{u32At}
 use Rattle.values.specs.Integers.{fromBits}
 use Rattle.values.specs.Curves.{Point, curveValues}
@@ -24,8 +23,9 @@ use Rattle.extended.specs.Folds.{foldedAt, foldedFrom}
 use Rattle.extended.specs.Points.{pointAt, pointsFrom, pointsAfter, valuesOf, allValues}
 use Rattle.extended.specs.Right.{curveRight, ownRight}
 use Rattle.extended.specs.Inner.{SmallFolded, Folds, fold, Foldable}
+use Rattle.extended.proofs.ListLaws.{points-take, folded-more, folded-none}
+use Rattle.extended.proofs.TakeLaws.{takes-times, takes-none, right-curve, takes-left, points-behind}
 use Rattle.tables.specs.Inner.{pointsOf, timesAs, itemsLeft, pointsLeft, ItemIn, PointIn, Reached, Drawn}
-use Rattle.extended.proofs.ListLaws.{points-length, points-take, points-drop, folded-more, folded-none}
 
 -- ---- what is read
 
@@ -49,10 +49,6 @@ curve = 3
 
 module _ (i : Folded) where
   module _ (e : i .item .kind ≡ curve) where
-    pub points-curve : i .times ≡ pointsOf i
-    unfolding pointsOf pick
-    points-curve = rw (eq-eqb _ 3 e)
-
     pub times-curve : (n : ℕ) → n ≡ timesAs i n
     unfolding timesAs pick
     times-curve n = rw (eq-eqb _ 3 e)
@@ -61,34 +57,15 @@ module _ (i : Folded) where
     unfolding valuesOf pick
     values-curve ps = rw (eq-eqb _ 3 e)
 
-    after-curve : (ps : List Point) → pointsAfter i ps ≡ drop (i .times) ps
-    unfolding pointsAfter pick
-    after-curve ps = rw (eq-eqb _ 3 e)
-
-    right-curve : (ps : List Point) → ownRight i ps ≡ true → curveRight i ps ≡ true
-    unfolding ownRight pick
-    right-curve ps r =
-        let n : eqb (i .item .kind) 2 ≡ false = ne-eqb _ 2 (λ (z : i .item .kind ≡ 2). omega arith) in
-        let s = every-head _ _ (every-rest _ _ r) in
-        rw (n, eq-eqb _ 3 e) at s
-
     some-points : (ps : List Point) → ownRight i ps ≡ true → 1 ≤ i .times
     unfolding curveRight
-    some-points ps r = between-low _ _ _ (every-head _ _ (every-rest _ _ (right-curve ps r)))
-
-    few-points : (ps : List Point) → ownRight i ps ≡ true → i .times ≤ length ps
-    unfolding curveRight
-    few-points ps r = between-high _ _ _ (every-head _ _ (every-rest _ _ (right-curve ps r)))
+    some-points ps r = between-low _ _ _ (every-head _ _ (every-rest _ _ (right-curve i ps e r)))
 
     some-step : (ps : List Point) → ownRight i ps ≡ true → 1 ≤ i .each
     unfolding curveRight
-    some-step ps r = between-low _ _ _ (every-head _ _ (right-curve ps r))
+    some-step ps r = between-low _ _ _ (every-head _ _ (right-curve i ps e r))
 
   module _ (n : i .item .kind ≡ curve → ⊥) where
-    pub points-plain : 0 ≡ pointsOf i
-    unfolding pointsOf pick
-    points-plain = rw (ne-eqb _ 3 n)
-
     pub times-plain : (m : ℕ) → i .times ≡ timesAs i m
     unfolding timesAs pick
     times-plain m = rw (ne-eqb _ 3 n)
@@ -97,11 +74,7 @@ module _ (i : Folded) where
     unfolding valuesOf pick
     values-plain ps = rw (ne-eqb _ 3 n)
 
-    after-plain : (ps : List Point) → pointsAfter i ps ≡ ps
-    unfolding pointsAfter pick
-    after-plain ps = rw (ne-eqb _ 3 n)
-
-pub ruleset kinds = (points-curve, points-plain, times-curve, times-plain, needs)
+pub ruleset kinds = (takes-times, takes-none, times-curve, times-plain, needs)
 
 -- ---- an item and the points left
 
@@ -111,7 +84,7 @@ module _ (f : List ℕ) (c : Extent) (used : ℕ) (i : Folded) (asked : Reached 
 
   module _ (e : i .item .kind ≡ curve) where
     taken : i .times ≤ c .points - used
-    taken = rw (points-length f (pointsStart c + pointSize * used) (c .points - used)) at (few-points i e (pointsLeft f c used) (asked .right))
+    taken = omega (arith, takes-times i e, takes-left f (pointsStart c + pointSize * used) (c .points - used) i (asked .right))
 
     pub reached-drawn : (from : ℕ) → from ≡ pointsStart c + pointSize * used → Drawn (length f) from (i .times) (i .each)
     reached-drawn from s =
@@ -133,48 +106,22 @@ module _ (f : List ℕ) (c : Extent) (used : ℕ) (i : Folded) (asked : Reached 
         → r ≡ length (valuesOf i (pointsLeft f c used))
     reached-count from r s p = rw (reached-values from s) p
 
-    used-curve : used + i .times ≤ c .points
-    used-curve =
-        let t = taken in
-        let u = asked .points in
-        omega arith
-
-    left-curve : pointsAfter i (pointsLeft f c used) ≡ pointsLeft f c (used + i .times)
-    left-curve =
-        let a : pointsStart c + pointSize * used + pointSize * i .times ≡ pointsStart c + pointSize * (used + i .times) = omega arith in
-        let b : c .points - used - i .times ≡ c .points - (used + i .times) = omega arith in
-        after-curve i e (pointsLeft f c used)
-        ∙ rw (points-drop f (pointsStart c + pointSize * used) (c .points - used) (i .times) taken, a, b)
-
   module _ (n : i .item .kind ≡ curve → ⊥) where
     pub reached-none : 0 ≡ length (valuesOf i (pointsLeft f c used))
     reached-none = rw (values-plain i n (pointsLeft f c used))
 
   pub used-after : (n : ℕ) → n ≡ pointsOf i → used + n ≤ c .points
-  used-after n p = go (eqb (i .item .kind) 3) refl where
-    go : (b : Bool) → eqb (i .item .kind) 3 ≡ b → used + n ≤ c .points
-    go true h =
-        let e = eqb-true (i .item .kind) 3 h in
-        let s : i .times ≡ pointsOf i = points-curve i e in
-        let u = used-curve e in
-        omega arith
-    go false h =
-        let s : 0 ≡ pointsOf i = points-plain i (eqb-false (i .item .kind) 3 h) in
-        let u = asked .points in
-        omega arith
+  used-after n p =
+      let t = takes-left f (pointsStart c + pointSize * used) (c .points - used) i (asked .right) in
+      let u = asked .points in
+      omega arith
 
   pub left-after : (n : ℕ) → n ≡ pointsOf i → pointsAfter i (pointsLeft f c used) ≡ pointsLeft f c (used + n)
-  left-after n p = go (eqb (i .item .kind) 3) refl where
-    go : (b : Bool) → eqb (i .item .kind) 3 ≡ b → pointsAfter i (pointsLeft f c used) ≡ pointsLeft f c (used + n)
-    go true h =
-        let e = eqb-true (i .item .kind) 3 h in
-        let s : i .times ≡ n = points-curve i e ∙ sym p in
-        rw (← s) (left-curve e)
-    go false h =
-        let d = eqb-false (i .item .kind) 3 h in
-        let s : n ≡ 0 = p ∙ sym (points-plain i d) in
-        let z : used + 0 ≡ used = omega arith in
-        rw (s, z) (after-plain i d (pointsLeft f c used))
+  left-after n p =
+      let t = takes-left f (pointsStart c + pointSize * used) (c .points - used) i (asked .right) in
+      let a : pointsStart c + pointSize * used + pointSize * n ≡ pointsStart c + pointSize * (used + n) = omega arith in
+      let b : c .points - used - n ≡ c .points - (used + n) = omega arith in
+      points-behind f (pointsStart c + pointSize * used) (c .points - used) n i p (omega arith) ∙ rw (a, b)
 
 pub ruleset reaching = (reached-point, reached-drawn, reached-count, reached-none, needs)
 

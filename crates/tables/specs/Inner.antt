@@ -16,6 +16,7 @@ use Rattle.extended.specs.Folds.{isCurve, foldedFrom}
 use Rattle.extended.specs.Points.{pointsFrom}
 use Rattle.extended.specs.Right.{ownRight}
 use Rattle.extended.specs.Inner.{wordRange, SmallExtent, SmallFolded, Foldable}
+pub use Rattle.extended.specs.Inner.{pointsOf}
 use Rattle.shapes.specs.Limits.{rowWords}
 use Rattle.tables.specs.Tables.{Below}
 
@@ -24,10 +25,6 @@ use Rattle.tables.specs.Tables.{Below}
 -- A curve has less than 2^16 points, and a span less than 2^32 steps.
 abbrev pub mostCount : ℕ
 mostCount = 281474976710656
-
--- How many points an item takes.
-unfoldable pub pointsOf : Folded → ℕ
-pointsOf i = pick (isCurve i) (i .times) 0
 
 -- An item's passes, or the values of its curve, where these are so many.
 unfoldable pub timesAs : Folded → (values : ℕ) → ℕ

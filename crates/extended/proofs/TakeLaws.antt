@@ -4,7 +4,6 @@ use mathlib.Core.Path.{_≡_, refl, sym, _∙_}
 use mathlib.Core.Bool.{Bool, true, false}
 use mathlib.Core.List.{List}
 use Prim.Native.Nat.{ℕ, _+_, _-_, _*_, _≤_}
-use native.Mathlib.Numerals.{add-one}
 use native.Mathlib.Omega.{arith}
 use lib.Dec.{eqb}
 use lib.ListN.{length, drop}
@@ -12,13 +11,13 @@ use borrow.Author.Tests.{eqb-true, eqb-false, eq-eqb, ne-eqb}
 use Rattle.base.specs.Tests.{pick}
 use Rattle.base.proofs.TestLaws.{every-head, every-rest, between-high}
 use Rattle.values.specs.Curves.{Point}
 use Rattle.extended.specs.declared.Folded.{Folded}
 use Rattle.extended.specs.Layout.{pointSize}
 use Rattle.extended.specs.Folds.{isLoop, isCurve}
 use Rattle.extended.specs.Points.{pointsFrom, pointsAfter}
-use Rattle.extended.specs.Right.{curveRight, ownRight, itemOf}
-use Rattle.folding.specs.Inner.{pointsOf, pointsLeft}
+use Rattle.extended.specs.Right.{curveRight, ownRight}
+use Rattle.extended.specs.Inner.{pointsOf}
 use Rattle.extended.proofs.ListLaws.{points-length, points-drop}
 
 pub takes-times : (i : Folded) → i .item .kind ≡ 3 → i .times ≡ pointsOf i
 unfolding pointsOf pick
@@ -28,13 +27,17 @@ pub takes-none : (i : Folded) → (i .item .kind ≡ 3 → ⊥) → 0 ≡ points
 unfolding pointsOf pick
 takes-none i e = rw (ne-eqb (i .item .kind) 3 e)
 
-curve-takes : (i : Folded) (ps : List Point) → i .item .kind ≡ 3 → ownRight i ps ≡ true → i .times ≤ length ps
-unfolding ownRight pick curveRight
-curve-takes i ps k e =
+pub right-curve : (i : Folded) (ps : List Point) → i .item .kind ≡ 3 → ownRight i ps ≡ true → curveRight i ps ≡ true
+unfolding ownRight pick
+right-curve i ps k e =
     let l : isLoop i ≡ false = ne-eqb (i .item .kind) 2 (λ q. let z : _≡_ {A = ℕ} 2 3 = sym q ∙ k in omega arith) in
     let c : isCurve i ≡ true = eq-eqb (i .item .kind) 3 k in
     let rules = every-head _ _ (every-rest _ _ e) in
-    between-high _ _ _ (every-head _ _ (every-rest _ _ (rw (l, c) at rules)))
+    rw (l, c) at rules
+
+curve-takes : (i : Folded) (ps : List Point) → i .item .kind ≡ 3 → ownRight i ps ≡ true → i .times ≤ length ps
+unfolding curveRight
+curve-takes i ps k e = between-high _ _ _ (every-head _ _ (every-rest _ _ (right-curve i ps k e)))
 
 pub own-takes : (i : Folded) (ps : List Point) → ownRight i ps ≡ true → pointsOf i ≤ length ps
 own-takes i ps e = go (eqb (i .item .kind) 3) refl where
@@ -58,7 +61,3 @@ points-behind f p left n i e h = go (isCurve i) refl where
       let z : p + pointSize * n ≡ p = omega arith in
       let y : left - n ≡ left = omega arith in
       rw (z, y)
-
-pub points-next : (f : List ℕ) (k : ℕ) → pointsLeft f (k + 1) ≡ pointsAfter (itemOf f k) (pointsLeft f k)
-unfolding pointsLeft
-points-next f k = rw add-one
