@@ -16,10 +16,11 @@ use Rattle.extended.specs.declared.Folded.{Folded}
 use Rattle.extended.specs.Folds.{isLoop, isCurve}
 use Rattle.extended.specs.Points.{pointsAfter, valuesOf}
 use Rattle.extended.specs.Right.{mostPasses, loopRight, curveRight, plainRight, ownRight}
+use Rattle.tables.specs.Tables.{timesOf}
 use Rattle.unfolding.specs.Messages.{Messages, withValue, withValues, numberOf, numbersOf}
 use Rattle.unfolding.specs.Extended.{numberedBy, numbered}
 use Rattle.unfolding.proofs.CountLaws.{numbers-length}
-use Rattle.building.specs.Rows.{timesIn, shapeOf, timesOf}
+use Rattle.building.specs.Rows.{timesIn, shapeOf}
 
 -- ---- what an item is
 

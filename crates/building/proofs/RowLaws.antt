@@ -20,11 +20,12 @@ use Rattle.extended.specs.Inner.{Folds, fold}
 use Rattle.shapes.specs.declared.Shape.{Shape}
 use Rattle.shapes.specs.Limits.{rowWords}
 use Rattle.shapes.specs.Shapes.{shapeAt, shapesFrom, unfolded as treeUnfolded, items as treeItems, actions as treeActions, depth as treeDepth}
+use Rattle.tables.specs.Tables.{timesOf, rowOf, tableOf}
 use Rattle.unfolding.specs.Messages.{Messages, withValues, numbersOf}
 use Rattle.unfolding.specs.Extended.{numbered}
 use Rattle.unfolding.specs.Unfolded.{unfolded, items, actions, depth}
 use Rattle.unfolding.proofs.CountLaws.{numbers-length}
-use Rattle.building.specs.Rows.{firstAt, numbersAt, numberedIn, shapesOf, timesOf, Rows, no-rows, row, rowsOf}
+use Rattle.building.specs.Rows.{firstAt, numbersAt, numberedIn, shapesOf, Rows, no-rows, row}
 use Rattle.building.proofs.ShapeLaws.{items-same, actions-same, depth-same}
 use Rattle.building.proofs.KindLaws.{numbers-both, shape-same}
 
@@ -83,8 +84,8 @@ module _ (table : List ℕ) (at count : ℕ) (a b c d : ℕ) (rest : List ℕ) (
   unfolding part
   words-after = sym (drop-take rowWords count (drop at table) ∙ ap (take count) (drop-drop rowWords at table)) ∙ ap (drop rowWords) laid
 
-rows-at : (table : List ℕ) (k before : ℕ) (is : List Folded) (ps : List Point) → part table (rowWords * k) (rowWords * length is) ≡ rowsOf before is ps → Rows table k before is ps
-unfolding rowsOf shapeAt firstAt
+rows-at : (table : List ℕ) (k before : ℕ) (is : List Folded) (ps : List Point) → part table (rowWords * k) (rowWords * length is) ≡ tableOf is ps before → Rows table k before is ps
+unfolding tableOf rowOf shapeAt firstAt
 rows-at table k before [] ps e = no-rows
 rows-at table k before (i ∷ is) ps e =
     let s : rowWords * length (i ∷ is) ≡ rowWords + rowWords * length is = omega arith in
@@ -99,7 +100,7 @@ rows-at table k before (i ∷ is) ps e =
     let shape : shapeAt table k ≡ record { kind = i .item .kind; last = i .item .last; times = timesOf i ps } = rw (x, y, v) in
     row shape w (rows-at table (k + 1) (before + length (valuesOf i ps)) is (pointsAfter i ps) (rw t at after))
 
-pub rows-laid : (table : List ℕ) (is : List Folded) (ps : List Point) → take (rowWords * length is) table ≡ rowsOf 0 is ps → Rows table 0 0 is ps
+pub rows-laid : (table : List ℕ) (is : List Folded) (ps : List Point) → take (rowWords * length is) table ≡ tableOf is ps 0 → Rows table 0 0 is ps
 unfolding part
 rows-laid table is ps e = rows-at table 0 0 is ps e
 

@@ -10,11 +10,12 @@ use Rattle.contents.specs.Bytes.{part}
 use Rattle.values.specs.Curves.{Point}
 use Rattle.extended.specs.declared.Folded.{Folded}
 use Rattle.extended.specs.Layout.{foldedSize}
-use Rattle.extended.specs.Folds.{isCurve, foldedAt}
+use Rattle.extended.specs.Folds.{foldedAt}
 use Rattle.extended.specs.Points.{valuesOf, pointsAfter}
 use Rattle.shapes.specs.declared.Shape.{Shape}
 use Rattle.shapes.specs.Limits.{rowWords}
 use Rattle.shapes.specs.Shapes.{shapeAt}
+use Rattle.tables.specs.Tables.{timesOf}
 use Rattle.unfolding.specs.Extended.{Numbered, numberedBy}
 use Rattle.unfolding.specs.Unfolded.{isAction, isGroup, isLoop}
 
@@ -47,17 +48,8 @@ shapesOf (i ∷ is) = shapeOf i ∷ shapesOf is
 
 -- ---- the rows of an extended score's own items
 
--- How many values a curve has; of another item, its field.
-unfoldable pub timesOf : Folded → List Point → ℕ
-timesOf i ps = pick (isCurve i) (length (valuesOf i ps)) (i .times)
-
 -- From row k on the table has the rows of these items, which so many values stand before.
 pub data Rows (table : List ℕ) : (k before : ℕ) → List Folded → List Point → Type 0 where
   no-rows : {k before : ℕ} {ps : List Point} → Rows table k before [] ps
   row : {k before : ℕ} {i : Folded} {is : List Folded} {ps : List Point} → shapeAt table k ≡ record { kind = i .item .kind; last = i .item .last; times = timesOf i ps }
       → firstAt table k ≡ before → Rows table (k + 1) (before + length (valuesOf i ps)) is (pointsAfter i ps) → Rows table k before (i ∷ is) ps
-
--- The same as a list of words: of each item its kind, its last, its times, and how many values stand before its own.
-unfoldable pub rowsOf : (before : ℕ) → List Folded → List Point → List ℕ
-rowsOf before [] ps = []
-rowsOf before (i ∷ is) ps = i .item .kind ∷ i .item .last ∷ timesOf i ps ∷ before ∷ rowsOf (before + length (valuesOf i ps)) is (pointsAfter i ps)

@@ -1,6 +1,6 @@
 -- Laws of the points and of the items in a file: how many there are, one more, and those before and behind some of them.
 -- By recursion on the count. Assumes nothing.
-use mathlib.Core.Path.{_≡_, refl, ap, _∙_}
+use mathlib.Core.Path.{_≡_, refl, ap}
 use mathlib.Core.List.{List, [], _∷_}
 use Prim.Native.Nat.{ℕ, zero, suc, _+_, _-_, _*_, _<_, _≤_}
 use native.Mathlib.Omega.{arith}
@@ -68,7 +68,3 @@ module _ (f : List ℕ) where
       let z : at + foldedSize * suc k ≡ at + foldedSize + foldedSize * k = omega arith in
       let s : suc n - suc k ≡ n - k = omega arith in
       rw (z, s) (folded-drop (at + foldedSize) n k (omega arith))
-
-  -- item k and those after it
-  pub folded-from : (at n k : ℕ) → k < n → drop k (foldedFrom f at n) ≡ foldedAt f (at + foldedSize * k) ∷ foldedFrom f (at + foldedSize * k + foldedSize) (n - k - 1)
-  folded-from at n k p = folded-drop at n k (omega arith) ∙ folded-more (at + foldedSize * k) (n - k) (omega arith)

@@ -16,7 +16,6 @@ use Rattle.extended.specs.declared.Folded.{Folded}
 use Rattle.extended.specs.Layout.{itemsStart, pointsStart}
 use Rattle.extended.specs.Folds.{isCurve, foldedFrom}
 use Rattle.extended.specs.Points.{pointsFrom, pointsAfter, valuesOf, allValues}
-use Rattle.shapes.specs.declared.Shape.{Shape}
 use Rattle.shapes.specs.Limits.{rowWords}
 use Rattle.tables.specs.declared.Table.{Table}
 use Rattle.tables.specs.declared.Table.the-variants.{Filled, Over}
@@ -34,19 +33,6 @@ rowOf i n first = i .item .kind ∷ i .item .last ∷ n ∷ first ∷ []
 unfoldable pub tableOf : List Folded → List Point → (first : ℕ) → List ℕ
 tableOf [] ps first = []
 tableOf (i ∷ is) ps first = rowOf i (timesOf i ps) first ++ tableOf is (pointsAfter i ps) (first + length (valuesOf i ps))
-
--- The shapes that the rows begin with.
-unfoldable pub shapeOf : Folded → (times : ℕ) → Shape
-shapeOf i n = record { kind = i .item .kind; last = i .item .last; times = n }
-
-unfoldable pub shapesOf : List Folded → List Point → List Shape
-shapesOf [] ps = []
-shapesOf (i ∷ is) ps = shapeOf i (timesOf i ps) ∷ shapesOf is (pointsAfter i ps)
-
--- The points that all these items leave.
-unfoldable pub pointsPast : List Folded → List Point → List Point
-pointsPast [] ps = ps
-pointsPast (i ∷ is) ps = pointsPast is (pointsAfter i ps)
 
 -- ---- of a file with these counts
 

@@ -1,8 +1,8 @@
 -- What the counts, the table and the list that were found say of the unfolded score and its limits.
 -- Assumes nothing.
-use mathlib.Core.Path.{_≡_, refl, ap, _∙_}
+use mathlib.Core.Path.{_≡_, refl}
 use mathlib.Core.Bool.{Bool, true, false}
-use mathlib.Core.List.{List, [], _∷_}
+use mathlib.Core.List.{List}
 use Prim.Native.Nat.{ℕ, _+_, _*_, _≤_}
 use native.Mathlib.Omega.{arith}
 use lib.ListN.{length, take, drop, length-drop}
@@ -14,15 +14,11 @@ use Rattle.base.proofs.TestLaws.{every-head, every-rest, between-low, between-h
 use Rattle.contents.specs.Limits.{mostEvents, mostItems, mostMessages, mostText}
 use Rattle.contents.specs.Bytes.{part}
 use Rattle.score.proofs.Decoded.{durations-length}
-use Rattle.values.specs.Curves.{Point}
 use Rattle.extended.specs.declared.Extent.{Extent}
-use Rattle.extended.specs.declared.Folded.{Folded}
 use Rattle.extended.specs.Layout.{extentOf, eventsStart, itemsStart, messagesStart, textStart}
-use Rattle.extended.specs.Points.{valuesOf, pointsAfter}
 use Rattle.extended.specs.Inner.{Foldable}
 use Rattle.shapes.specs.Limits.{rowWords}
-use Rattle.tables.specs.Tables.{rowOf, tableOf, itemsIn, pointsIn, valuesIn, tableIn}
-use Rattle.tables.specs.Tables as tables
+use Rattle.tables.specs.Tables.{itemsIn, pointsIn, valuesIn, tableIn}
 use Rattle.extended.proofs.ListLaws.{folded-length}
 use Rattle.unfolding.specs.declared.Unfolding.the-variants.{OverLimit}
 use Rattle.unfolding.specs.Messages.{withValues}
@@ -31,7 +27,7 @@ use Rattle.unfolding.specs.Unfolded.{unfolded, items, actions}
 use Rattle.unfolding.specs.Sizes.{scoreOf, withinLimits}
 use Rattle.unfolding.specs.Answers.{answered, roomLeft}
 use Rattle.unfolding.proofs.MessageLaws.{grown-values, entries-grow, text-grows, entries-length}
-use Rattle.building.specs.Rows.{timesOf, Rows, rowsOf}
+use Rattle.building.specs.Rows.{Rows}
 use Rattle.building.proofs.LeastLaws.{items-least, actions-least}
 use Rattle.building.proofs.RowLaws.{rows-laid}
 use Rattle.unfolding.proofs.LimitLaws.{Limits, limits-held}
@@ -129,14 +125,8 @@ few-is c e =
 
 -- ---- the table's rows
 
-rows-same : (is : List Folded) (ps : List Point) (before : ℕ) → tableOf is ps before ≡ rowsOf before is ps
-unfolding tableOf rowOf rowsOf timesOf tables.timesOf
-rows-same [] ps before = refl
-rows-same (i ∷ is) ps before =
-    ap (λ (l : List ℕ). i .item .kind ∷ i .item .last ∷ timesOf i ps ∷ before ∷ l) (rows-same is (pointsAfter i ps) (before + length (valuesOf i ps)))
-
 -- the rows of a file's own items stand at the front of the table
 pub rows-are : (f : List ℕ) (c : Extent) (table : List ℕ) → take (rowWords * c .items) table ≡ tableIn f c → Rows table 0 0 (itemsIn f c) (pointsIn f c)
 rows-are f c table e =
     let n : length (itemsIn f c) ≡ c .items = folded-length f (itemsStart c) (c .items) in
-    rows-laid table (itemsIn f c) (pointsIn f c) (rw n e ∙ rows-same (itemsIn f c) (pointsIn f c) 0)
+    rows-laid table (itemsIn f c) (pointsIn f c) (rw n e)
