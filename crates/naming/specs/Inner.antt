@@ -13,6 +13,7 @@ use Rattle.contents.specs.Bytes.{u16At, part}
 use Rattle.values.specs.Digits.{minus}
 use Rattle.values.specs.Integers.{wholeRange}
 use Rattle.values.specs.Inner.{mostDigits}
+pub use Rattle.filing.specs.Bodies.{ListRoom}
 use Rattle.unfolding.specs.Messages.{Entry, Messages, entriesFrom, entriesBytes, numberIn, numberOf, joined, withValue}
 use Rattle.naming.specs.declared.places.Place.{Place}
 use Rattle.naming.specs.declared.places.Place.the-variants.{At, Full}
@@ -59,10 +60,6 @@ messagesIn e l n t = record { entries = entriesFrom e 0 n; text = take t l }
 unfoldable pub allWithin : ℕ → List Entry → Bool
 allWithin text [] = true
 allWithin text (e ∷ es) = every (leb (e .start + e .size) text ∷ allWithin text es ∷ [])
-
-pub record ListRoom (e l : List ℕ) : Type 0 where
-  pub entries : messageSize * mostMessages ≤ length e
-  pub labels : mostText ≤ length l
 
 -- The first n entries are within the limits, so is the text, and the bytes of the entries are theirs.
 pub record Standing (e l : List ℕ) (n text : ℕ) : Type 0 where
