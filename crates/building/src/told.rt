@@ -11,13 +11,8 @@ use shapes::Sizes;
 use shapes::shape_at;
 use shapes::size_items;
 use shapes::smaller;
+use shapes::wide;
 use shapes::within_of;
-
-fn wide(x: u32) -> usize
-    ensures { λ r. ⌜ (r ≡ x) × (r < wordRange) ⌝ }
-{
-    x as usize
-}
 
 pub fn first_at(table: &[u32], k: usize) -> usize
     requires { ⌜ rowWords * (k + 1) ≤ length (now table) ⌝ }
