@@ -6,8 +6,8 @@ use mathlib.Core.List.{List, [], _∷_, _++_}
 use Prim.Native.Nat.{ℕ, _+_, _<_, _≤_}
 use native.Mathlib.Omega.{arith}
 use lib.IntN.{ℤ}
-use lib.ListN.{length, drop, length-append, length-drop}
-use lib.Seq.{take-length, take-append-le, drop-append-le, drop-append-seam}
+use lib.ListN.{length, length-append}
+use lib.Seq.{take-length, drop-append-seam}
 use borrow.Author.Tests.{le-leb, leb-true, lt-ltb, le-ltb}
 use Rattle.base.specs.Tests.{pick}
 use Rattle.base.proofs.TestLaws.{every-end, every-pass, every-head, every-rest}
@@ -15,7 +15,7 @@ use Rattle.contents.specs.Limits.{mostMessages, mostText}
 use Rattle.contents.specs.Bytes.{part}
 use Rattle.values.specs.Digits.{digits}
 use Rattle.unfolding.specs.Messages.{Entry, Messages, numberOf, joined, withValue, withValues}
-use Rattle.unfolding.proofs.MessageLaws.{grown-values, entries-grow, text-grows}
+use Rattle.unfolding.proofs.MessageLaws.{part-grown, grown-values, entries-grow, text-grows}
 use Rattle.naming.specs.Named.{fits}
 use Rattle.naming.specs.Inner.{allWithin, keyOf, keyIn, keysOf}
 
@@ -40,12 +40,6 @@ within-grown t u [] x p q w = within-more u x [] q w
 within-grown t u (e ∷ es) x p q w = within-more u e (es ++ (x ∷ [])) (let h = within-head t e es w in omega arith) (within-grown t u es x p q (within-rest t e es w))
 
 -- ---- their keys
-
-part-grown : (text name : List ℕ) (s z : ℕ) → s + z ≤ length text → part (text ++ name) s z ≡ part text s z
-unfolding part
-part-grown text name s z p =
-    let d : drop s (text ++ name) ≡ drop s text ++ name = drop-append-le s text name (omega arith) in
-    rw d (take-append-le z (drop s text) name (omega (arith, length-drop s text)))
 
 key-grown : (text name : List ℕ) (e : Entry) → e .start + e .size ≤ length text → keyIn (text ++ name) e ≡ keyIn text e
 unfolding keyIn pick

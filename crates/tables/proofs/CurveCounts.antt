@@ -4,11 +4,12 @@ use mathlib.Core.Path.{_≡_, refl, ap}
 use mathlib.Core.List.{List, [], _∷_, _++_}
 use Prim.Native.Nat.{ℕ, zero, suc, _+_, _-_, _*_, _/_, _<_, _≤_}
 use native.Mathlib.Omega.{arith}
-use native.Mathlib.Nat.{div-mul-le-self, mul-le-mul-left, mul-le-mul-right, suc-mul}
+use native.Mathlib.Nat.{div-le-self, div-mul-le-self, mul-le-mul-right, suc-mul}
 use lib.IntN.{ℤ}
 use lib.ListN.{length, length-append}
 use borrow.Author.Needs.{needs}
 use Rattle.values.specs.Curves.{curveValue, valuesFrom, spanValues, valuesOn, curveValues}
+use Rattle.values.proofs.SpanLaws.{span-length}
 use Rattle.extended.specs.Layout.{pointSize}
 use Rattle.extended.specs.Points.{pointAt, pointsFrom}
 use Rattle.extended.specs.Inner.{wordRange}
@@ -16,15 +17,6 @@ use Rattle.tables.specs.Inner.{mostCount, Drawn}
 use Rattle.extended.proofs.ListLaws.{points-more}
 
 -- ---- one span
-
-pub length-values : (v w : ℤ) (step d j count : ℕ) → length (valuesFrom v w step d j count) ≡ count
-unfolding valuesFrom
-length-values v w step d j zero = refl
-length-values v w step d j (suc count) = ap suc (length-values v w step d (suc j) count)
-
-pub length-span : (v w : ℤ) (step d : ℕ) → length (spanValues v w step d) ≡ d / step
-unfolding spanValues
-length-span v w step d = length-values v w step d 0 (d / step)
 
 -- one value more, at the end
 values-last : (v w : ℤ) (step d j count : ℕ) → valuesFrom v w step d j (suc count) ≡ valuesFrom v w step d j count ++ (curveValue v w step d (j + count) ∷ [])
@@ -40,15 +32,8 @@ values-next v w step d j =
     let z : 0 + j ≡ j = omega arith in
     rw s (rw z at (values-last v w step d 0 j))
 
--- a quotient is no bigger than what is divided
-pub quotient-most : (d step : ℕ) → 1 ≤ step → d / step ≤ d
-quotient-most d step p =
-    let l : d / step * step ≤ d = div-mul-le-self d step in
-    let m : d / step * 1 ≤ d / step * step = mul-le-mul-left (d / step) p in
-    omega arith
-
 pub steps-small : (d step s : ℕ) → s ≡ d → s < wordRange → 1 ≤ step → s / step < wordRange
-steps-small d step s e l p = let m = quotient-most s step p in omega arith
+steps-small d step s e l p = omega (arith, div-le-self s step)
 
 pub steps-same : (d step s : ℕ) → s ≡ d → s / step ≡ d / step
 steps-same d step s e = rw e
@@ -83,7 +68,7 @@ module _ (f : List ℕ) (step : ℕ) where
       let w = pointAt f (at + pointSize) .value in
       let d = pointAt f at .span in
       let l = length-append (spanValues v w step d) (curveValues step (pointsFrom f (at + pointSize) (left - 1))) in
-      rw (curve-more at left p, l, length-span v w step d)
+      rw (curve-more at left p, l, span-length v w step d)
 
 -- ---- the count
 

@@ -7,16 +7,15 @@ use Prim.Native.Nat.{ℕ, _*_, _≤_}
 use native.Mathlib.Omega.{arith}
 use lib.ListN.{length, take}
 use borrow.Author.Needs.{needs}
-use borrow.Author.Tests.{leb-true}
 use Rattle.base.specs.Checks.{fine}
-use Rattle.base.proofs.TestLaws.{told-true, told-false, every-head}
+use Rattle.base.proofs.TestLaws.{told-true, told-false}
 use Rattle.ascii.specs.Laying.{Laid}
 use Rattle.contents.specs.Limits.{mostItems}
 use Rattle.extended.specs.declared.Extent.{Extent}
-use Rattle.extended.specs.Layout.{extendedContents, extentOf, itemsStart, contentsRight}
+use Rattle.extended.specs.Layout.{extendedContents, extentOf, itemsStart}
 use Rattle.extended.specs.Right.{extendedRight}
 use Rattle.extended.specs.Inner.{SmallExtent, Foldable}
-use Rattle.extended.proofs.RightLaws.{right-contents}
+use Rattle.extended.proofs.RightLaws.{contents-long, right-contents}
 use Rattle.folding.proofs.RightLaws.{right-foldable}
 use Rattle.shapes.specs.declared.Sizes.{Sizes}
 use Rattle.shapes.specs.declared.Sizes.the-variants.{Within, Over}
@@ -40,8 +39,7 @@ use Rattle.unfolder.proofs.ScoreLaws.{over-limit, items-are, values-lea
 
 module _ (f : List ℕ) (right : extendedRight f ≡ fine) where
   pub right-long : extendedContents ≤ length f
-  unfolding contentsRight
-  right-long = leb-true _ _ (every-head _ _ (right-contents f right))
+  right-long = contents-long f (right-contents f right)
 
   module _ (c : Extent) (counts : c ≡ extentOf f) (small : SmallExtent c) where
     foldable : Foldable f c

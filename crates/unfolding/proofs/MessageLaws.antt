@@ -83,6 +83,13 @@ module _ (m n : Messages) (g : Grown m n) where
 
 -- ---- a message with just these bytes
 
+-- What lies within the text keeps its bytes.
+pub part-grown : (text name : List ℕ) (s z : ℕ) → s + z ≤ length text → part (text ++ name) s z ≡ part text s z
+unfolding part
+part-grown text name s z p =
+    let d : drop s (text ++ name) ≡ drop s text ++ name = drop-append-le s text name (omega arith) in
+    rw d (take-append-le z (drop s text) name (omega (arith, length-drop s text)))
+
 begins-itself : (l : List ℕ) → begins l l ≡ true
 unfolding begins pick
 begins-itself [] = refl
@@ -103,14 +110,11 @@ module _ (text name : List ℕ) (e : Entry) (h : isNamed text name e ≡ true) w
 
   -- Text behind it changes nothing.
   named-on : (behind : List ℕ) → isNamed (text ++ behind) name e ≡ true
-  unfolding isNamed every part
+  unfolding isNamed every
   named-on behind =
       let w = named-within in
       let l = length-append text behind in
-      let d : drop (e .start) (text ++ behind) ≡ drop (e .start) text ++ behind = drop-append-le (e .start) text behind (omega arith) in
-      let n : length (drop (e .start) text) ≡ length text - e .start = length-drop (e .start) text in
-      let t : take (e .size) (drop (e .start) text ++ behind) ≡ take (e .size) (drop (e .start) text) = take-append-le (e .size) (drop (e .start) text) behind (omega arith) in
-      rw (le-leb (e .start + e .size) (length (text ++ behind)) (omega arith), d, t, named-same)
+      rw (le-leb (e .start + e .size) (length (text ++ behind)) (omega arith), part-grown text behind (e .start) (e .size) w, named-same)
 
 abbrev pub noEntry : Entry
 noEntry = record { start = 0; size = 0 }

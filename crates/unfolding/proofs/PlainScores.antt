@@ -6,7 +6,7 @@ use mathlib.Core.List.{List, [], _∷_, _++_, map, map-append}
 use Prim.Native.Nat.{ℕ, zero, suc, _+_, _*_, _<_, _≤_}
 use native.Mathlib.Omega.{arith}
 use lib.Dec.{eqb}
-use lib.ListN.{length, getD, take, drop, length-append, List·getD-map}
+use lib.ListN.{length, length-map, getD, take, drop, length-append, List·getD-map}
 use lib.Seq.{take-at, drop-at}
 use borrow.Author.Tests.{eqb-true, eqb-false}
 use Rattle.page.specs.declared.Item.{Item}
@@ -44,7 +44,7 @@ use Rattle.unfolding.specs.Answers.{unfoldedFile, unfoldAnswer}
 use Rattle.extended.proofs.RightLaws.{right-nests}
 use Rattle.unfolding.proofs.LimitLaws.{limits-hold}
 use Rattle.unfolding.proofs.Nesting.{Ends}
-use Rattle.unfolding.proofs.SelfLaws.{bare, itemIn, held-is, map-length, same-numbered, same-items, ownCounts, same-counts, unfolds-to-itself}
+use Rattle.unfolding.proofs.SelfLaws.{bare, itemIn, held-is, same-numbered, same-items, ownCounts, same-counts, unfolds-to-itself}
 use Rattle.unfolding.proofs.Shapes.{unfolded-none, unfolded-more}
 use Rattle.unfolding.proofs.CountLaws.{only-append, page-actions, action-depth, group-depth}
 use Rattle.unfolding.proofs.OneOutcome.{file-made}
@@ -80,7 +80,7 @@ abbrev plainly : List Item → List Numbered
 plainly is = map bare (map plainItem is)
 
 plainly-length : (is : List Item) → length (plainly is) ≡ length is
-plainly-length is = map-length bare (map plainItem is) ∙ map-length plainItem is
+plainly-length is = length-map (map plainItem is) bare ∙ length-map is plainItem
 
 plainly-both : (b l : List Item) → plainly (b ++ l) ≡ plainly b ++ plainly l
 plainly-both b l = ap (map bare) (map-append plainItem b l) ∙ map-append bare (map plainItem b) (map plainItem l)

@@ -6,7 +6,7 @@ use mathlib.Core.List.{List, [], _∷_, _++_, map, map-append}
 use Prim.Native.Nat.{ℕ, zero, suc, _+_, _-_, _*_, _<_, _≤_}
 use native.Mathlib.Omega.{arith}
 use lib.Dec.{eqb}
-use lib.ListN.{length, take, drop, take-append-drop, length-take, length-drop}
+use lib.ListN.{length, length-map, take, drop, take-append-drop, length-take, length-drop}
 use borrow.Author.Tests.{eqb-true, eqb-false, ne-eqb}
 use Rattle.page.specs.declared.Item.{Item}
 use Rattle.base.specs.Tests.{pick}
@@ -43,10 +43,6 @@ itemIn i = i .item
 -- ---- lists
 
 module _ {A B : Type 0} (g : A → B) where
-  pub map-length : (l : List A) → length (map g l) ≡ length l
-  map-length [] = refl
-  map-length (x ∷ l) = ap suc (map-length l)
-
   map-take : (n : ℕ) (l : List A) → take n (map g l) ≡ map g (take n l)
   map-take zero l = refl
   map-take (suc n) [] = refl
@@ -126,7 +122,7 @@ module _ (i : Folded) (is : List Folded) (body rest : Unfolded) (short : heldBy 
   unfolding page numberedBy
   page-group k =
       let w = heldBy i in
-      let n : items body ≡ i .item .last = sym (page-length body) ∙ ap length within ∙ map-length itemIn (take w is) ∙ length-take w is ∙ omega (arith, group-holds i k) in
+      let n : items body ≡ i .item .last = sym (page-length body) ∙ ap length within ∙ length-map (take w is) itemIn ∙ length-take w is ∙ omega (arith, group-holds i k) in
       ap page (becomes-group (bare i) body rest k)
       ∙ ap (λ (x : Item). x ∷ (page body ++ page rest)) (group-stays (i .item) (items body) k n)
       ∙ ap (_∷_ (i .item)) (rw (within, after) (sym (map-append itemIn (take w is) (drop w is))) ∙ ap (map itemIn) (take-append-drop w is))
@@ -156,7 +152,7 @@ page-plain-to (suc n) (plain {i = i} {is = is} k s b r) h =
 -- Actions and groups that are rightly nested unfold to themselves.
 pub page-plain : {is : List Folded} → Plain is → page (unfolded (map bare is)) ≡ map itemIn is
 unfolding unfolded
-page-plain {is} p = page-plain-to (length (map bare is)) p (omega (arith, map-length bare is))
+page-plain {is} p = page-plain-to (length (map bare is)) p (omega (arith, length-map is bare))
 
 -- ---- a table with no loop and no curve
 
@@ -252,7 +248,7 @@ module _ (f : List ℕ) (right : extendedRight f ≡ fine) (kinds : (k : ℕ) �
       let nests = right-nests f right in
       let w = right-whole f right in
       let events : length (s .durations) ≡ c .events = ap length (same-durations f) ∙ durations-length f eventsStart (c .events) in
-      let many : items (s .items) ≡ c .items = sym (page-length (s .items)) ∙ ap length (same-items f nests kinds) ∙ map-length itemIn (extendedOf f .items) ∙ folded-length f (itemsStart c) (c .items) in
+      let many : items (s .items) ≡ c .items = sym (page-length (s .items)) ∙ ap length (same-items f nests kinds) ∙ length-map (extendedOf f .items) itemIn ∙ folded-length f (itemsStart c) (c .items) in
       let messages : length (s .messages .entries) ≡ c .messages = ap (λ (m : Messages). length (m .entries)) (same-messages f nests kinds) ∙ entries-length f (messagesStart c) (c .messages) in
       let text : length (s .messages .text) ≡ c .text = ap (λ (m : Messages). length (m .text)) (same-messages f nests kinds) ∙ part-length f (textStart c) (c .text) (omega arith) in
       rw (events, many, messages, text)
