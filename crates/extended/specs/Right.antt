@@ -8,7 +8,6 @@ use Rattle.base.specs.Tests.{pick, every, between}
 use Rattle.base.specs.Checks.{Check, need, firstFault}
 use Rattle.contents.specs.Limits.{longest}
 use Rattle.values.specs.Curves.{Point}
-use Rattle.extended.specs.declared.Extent.{Extent}
 use Rattle.extended.specs.declared.Folded.{Folded}
 use Rattle.extended.specs.Layout.{foldedSize, extentOf, itemsStart, pointsStart, contentsRight}
 use Rattle.extended.specs.Folds.{foldedAt, isLoop, isCurve, heldBy}

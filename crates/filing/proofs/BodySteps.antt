@@ -1,13 +1,12 @@
 -- The bodies of a file lie at the fronts of their bytes, and the file's check decides whether it comes to the room.
 -- Assumes nothing.
-use mathlib.Core.Path.{_≡_, refl, sym, ap, _∙_}
+use mathlib.Core.Path.{_≡_, sym, ap, _∙_}
 use mathlib.Core.List.{List, _++_}
 use Prim.Native.Nat.{ℕ, _*_, _≤_}
 use native.Mathlib.Omega.{arith}
 use lib.ListN.{length, take, drop, take-append-drop}
 use lib.Seq.{length-take-le}
 use borrow.Author.Needs.{needs}
-use Rattle.base.specs.Checks.{fine, refused}
 use Rattle.ascii.specs.Laying.{Laid}
 use Rattle.contents.specs.declared.Counts.{Counts}
 use Rattle.contents.specs.declared.Fault.{Fault}

@@ -1,10 +1,10 @@
 -- From the bodies to the file and its answer, in the code's own terms.
 -- Assumes nothing.
-use mathlib.Core.Path.{_≡_, refl, sym, ap, _∙_}
-use mathlib.Core.List.{List, [], _∷_, _++_}
-use Prim.Native.Nat.{ℕ, _-_, _*_, _<_, _≤_}
+use mathlib.Core.Path.{_≡_, refl, sym, _∙_}
+use mathlib.Core.List.{List, [], _∷_}
+use Prim.Native.Nat.{ℕ, _-_, _<_, _≤_}
 use native.Mathlib.Omega.{arith}
-use lib.ListN.{length, take, drop, take-append-drop}
+use lib.ListN.{length, take}
 use lib.Seq.{length-take-le}
 use borrow.Author.Tests.{le-leb, lt-leb}
 use borrow.Author.Needs.{needs}
@@ -17,7 +17,7 @@ use Rattle.contents.specs.declared.Counts.{Counts}
 use Rattle.contents.specs.declared.Fault.{Fault}
 use Rattle.contents.specs.declared.Verdict.{Verdict}
 use Rattle.contents.specs.declared.Verdict.the-variants.{Fine, Refused}
-use Rattle.contents.specs.Limits.{eventSize, itemSize, messageSize, mostEvents, mostItems, mostMessages, mostText, longestScore}
+use Rattle.contents.specs.Limits.{mostEvents, mostItems, mostMessages, mostText, longestScore}
 use Rattle.contents.specs.Contents.{countsRight}
 use Rattle.contents.specs.Inner.{Counted}
 use Rattle.contents.specs.Replies.{verdictOf}

@@ -5,7 +5,7 @@ use mathlib.Core.List.{List}
 use lib.ListN.{length, take, drop}
 use Rattle.tokens.specs.Beats.{field}
 use Rattle.contents.specs.declared.Counts.{Counts}
-use Rattle.contents.specs.Limits.{eventSize, itemSize, messageSize, mostEvents, mostItems, mostMessages, mostText, longestScore}
+use Rattle.contents.specs.Limits.{eventSize, itemSize, messageSize, mostEvents, longestScore}
 use Rattle.contents.specs.Inner.{Counted}
 use Rattle.score.specs.Encode.{durationBytes, itemBytes, entryBytes, textBytes, countsIn}
 use Rattle.score.specs.File.{checked}

@@ -24,7 +24,7 @@ use Rattle.unfolding.specs.declared.Unfolding.the-variants.{Made}
 use Rattle.unfolding.specs.Extended.{extendedOf}
 use Rattle.unfolding.specs.Sizes.{scoreOf}
 use Rattle.unfolding.specs.Answers.{unfoldedFile, unfoldAnswer}
-use Rattle.unfolding.proofs.GrantedLaws.{Granted, granted}
+use Rattle.unfolding.proofs.GrantedLaws.{granted}
 use Rattle.unfolding.specs.Pieces.{pieceOf}
 use Rattle.unfolding.proofs.FileLaws.{unfolded-says}
 

@@ -7,7 +7,7 @@ use lib.ListN.{length}
 use borrow.Author.Tests.{le-leb, lt-leb}
 use borrow.Author.Needs.{needs}
 use Rattle.base.specs.Tests.{pick}
-use Rattle.base.specs.Checks.{fine, refused}
+use Rattle.base.specs.Checks.{fine}
 use Rattle.contents.specs.Limits.{longestScore}
 use Rattle.extended.specs.Right.{extendedRight}
 use Rattle.folding.specs.declared.Folding.{Folding}

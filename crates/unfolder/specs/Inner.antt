@@ -8,7 +8,7 @@ use lib.ListN.{length, take}
 use Rattle.base.specs.Tests.{every, between}
 use Rattle.base.specs.Checks.{fine}
 use Rattle.contents.specs.declared.Counts.{Counts}
-use Rattle.contents.specs.Limits.{eventSize, itemSize, messageSize, mostEvents, mostItems, mostActions, mostMessages, mostText, deepest, longestScore}
+use Rattle.contents.specs.Limits.{eventSize, itemSize, messageSize, mostEvents, mostItems, mostActions, mostMessages, mostText, deepest}
 use Rattle.score.specs.File.{checked}
 use Rattle.score.specs.Encode.{itemBytes}
 use Rattle.filing.specs.Bodies.{ListRoom}

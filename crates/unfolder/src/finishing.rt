@@ -1,5 +1,4 @@
 // From the bodies to the file and its answer.
-ghost use mathlib.Core.Path.{_≡_};
 ghost use Prim.Native.Nat.{_+_, _*_, _≤_};
 ghost use lib.ListN.{length};
 ghost use Rattle.ascii.specs.Laying.{Laid};

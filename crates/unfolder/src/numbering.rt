@@ -1,5 +1,4 @@
 // The message list with the values of the curves, and the page with their numbers.
-ghost use mathlib.Core.Path.{_≡_};
 ghost use Prim.Native.Nat.{_≤_};
 ghost use lib.ListN.{length};
 ghost use Rattle.contents.specs.Limits.{mostActions, longestScore};

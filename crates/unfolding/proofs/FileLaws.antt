@@ -25,7 +25,7 @@ use Rattle.score.proofs.EncodingPieces.{durations-size, items-size, contents-si
 use Rattle.score.proofs.EncodingFiles.{encode-decode}
 use Rattle.extended.specs.Layout.{extentOf}
 use Rattle.extended.specs.Right.{itemOf, extendedRight}
-use Rattle.unfolding.specs.Messages.{Entry, Messages, entriesBytes}
+use Rattle.unfolding.specs.Messages.{Entry, entriesBytes}
 use Rattle.unfolding.specs.Extended.{extendedOf}
 use Rattle.unfolding.specs.Unfolded.{items, page}
 use Rattle.unfolding.specs.Pieces.{labelIn, labelsIn, pieceOf}

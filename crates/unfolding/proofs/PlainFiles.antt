@@ -21,7 +21,6 @@ use Rattle.score.proofs.Fielded.{Fitting, FitItems, no-item, fit-item, FitDurat
 use Rattle.score.proofs.EncodingReads.{durations-read, items-read}
 use Rattle.score.proofs.EncodingPieces.{durations-size, entries-size}
 use Rattle.extended.specs.declared.Extent.{Extent}
-use Rattle.extended.specs.declared.Folded.{Folded}
 use Rattle.extended.specs.Layout.{extendedContents, foldedSize, extentOf, eventsStart, itemsStart, messagesStart, textStart, pointsStart, wholeSize, contentsRight}
 use Rattle.extended.specs.Folds.{foldedAt, foldedFrom}
 use Rattle.unfolding.specs.Messages.{entriesFrom, entriesBytes}

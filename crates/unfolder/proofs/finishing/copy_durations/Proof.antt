@@ -1,7 +1,7 @@
 -- The invariant: the durations passed are laid from the front on.
 -- Assumes nothing.
 use mathlib.Core.Path.{_≡_}
-use Prim.Native.Nat.{_+_, _-_, _*_, _≤_}
+use Prim.Native.Nat.{_-_, _*_, _≤_}
 use Rattle.ascii.specs.Laying.{Laid}
 use Rattle.contents.specs.Limits.{eventSize}
 use Rattle.score.specs.Events.{durationsAt}
