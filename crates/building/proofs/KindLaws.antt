@@ -10,12 +10,13 @@ use lib.IntN.{ℤ}
 use lib.ListN.{length}
 use borrow.Author.Tests.{eqb-true, eqb-false, leb-true, eq-eqb, ne-eqb}
 use Rattle.base.specs.Tests.{pick}
-use Rattle.base.proofs.TestLaws.{every-head, every-rest, between-low}
+use Rattle.base.proofs.TestLaws.{every-head, every-rest}
 use Rattle.values.specs.Curves.{Point}
 use Rattle.extended.specs.declared.Folded.{Folded}
 use Rattle.extended.specs.Folds.{isLoop, isCurve}
 use Rattle.extended.specs.Points.{pointsAfter, valuesOf}
-use Rattle.extended.specs.Right.{mostPasses, loopRight, curveRight, plainRight, ownRight}
+use Rattle.extended.specs.Right.{loopRight, curveRight, plainRight, ownRight}
+use Rattle.extended.proofs.TakeLaws.{right-passes}
 use Rattle.tables.specs.Tables.{timesOf}
 use Rattle.unfolding.specs.Messages.{Messages, withValue, withValues, numberOf, numbersOf}
 use Rattle.unfolding.specs.Extended.{numberedBy, numbered}
@@ -29,10 +30,6 @@ pub data Kinds (i : Folded) : Type 0 where
   a-curve : i .item .kind ≡ 3 → Kinds i
   an-action : i .item .kind ≡ 0 → i .times ≡ 0 → Kinds i
   a-group : i .item .kind ≡ 1 → i .times ≡ 0 → Kinds i
-
-right-loop : (i : Folded) → loopRight i ≡ true → 1 ≤ i .times
-unfolding loopRight
-right-loop i p = between-low 1 mostPasses (i .times) (every-head _ _ (every-rest _ _ p))
 
 right-plain : (i : Folded) → plainRight i ≡ true → Kinds i
 unfolding plainRight
@@ -48,7 +45,7 @@ pub kinds : (i : Folded) (ps : List Point) → ownRight i ps ≡ true → Kinds 
 unfolding ownRight pick
 kinds i ps r = go (isLoop i) (isCurve i) refl refl (every-head _ _ (every-rest _ _ r)) where
   go : (l c : Bool) → isLoop i ≡ l → isCurve i ≡ c → pick (isLoop i) (loopRight i) (pick (isCurve i) (curveRight i ps) (plainRight i)) ≡ true → Kinds i
-  go true c p q h = a-loop (eqb-true _ _ p) (right-loop i (rw p at h))
+  go true c p q h = a-loop (eqb-true _ _ p) (right-passes i (rw p at h))
   go false true p q h = a-curve (eqb-true _ _ q)
   go false false p q h = right-plain i (rw (p, q) at h)
 

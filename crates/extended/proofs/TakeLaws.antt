@@ -1,4 +1,4 @@
--- Laws of the points that an item takes: a right curve takes no more than are left, and those behind them are left to the items after it.
+-- Laws of the points that an item takes: a right curve takes one and no more than are left, and those behind them are left to the items after it.
 -- Assumes nothing.
 use mathlib.Core.Path.{_≡_, refl, sym, _∙_}
 use mathlib.Core.Bool.{Bool, true, false}
@@ -9,13 +9,14 @@ use lib.Dec.{eqb}
 use lib.ListN.{length, drop}
 use borrow.Author.Tests.{eqb-true, eqb-false, eq-eqb, ne-eqb}
 use Rattle.base.specs.Tests.{pick}
-use Rattle.base.proofs.TestLaws.{every-head, every-rest, between-high}
+use Rattle.base.proofs.TestLaws.{every-head, every-rest, between-low, between-high}
+use Rattle.contents.specs.Limits.{longest}
 use Rattle.values.specs.Curves.{Point}
 use Rattle.extended.specs.declared.Folded.{Folded}
 use Rattle.extended.specs.Layout.{pointSize}
 use Rattle.extended.specs.Folds.{isLoop, isCurve}
 use Rattle.extended.specs.Points.{pointsFrom, pointsAfter}
-use Rattle.extended.specs.Right.{curveRight, ownRight}
+use Rattle.extended.specs.Right.{mostPasses, loopRight, curveRight, ownRight}
 use Rattle.extended.specs.Inner.{pointsOf}
 use Rattle.extended.proofs.ListLaws.{points-length, points-drop}
 
@@ -27,17 +28,30 @@ pub takes-none : (i : Folded) → (i .item .kind ≡ 3 → ⊥) → 0 ≡ points
 unfolding pointsOf pick
 takes-none i e = rw (ne-eqb (i .item .kind) 3 e)
 
-pub right-curve : (i : Folded) (ps : List Point) → i .item .kind ≡ 3 → ownRight i ps ≡ true → curveRight i ps ≡ true
+pub own-curve : (i : Folded) (ps : List Point) → i .item .kind ≡ 3 → ownRight i ps ≡ true → curveRight i ps ≡ true
 unfolding ownRight pick
-right-curve i ps k e =
+own-curve i ps k e =
     let l : isLoop i ≡ false = ne-eqb (i .item .kind) 2 (λ q. let z : _≡_ {A = ℕ} 2 3 = sym q ∙ k in omega arith) in
     let c : isCurve i ≡ true = eq-eqb (i .item .kind) 3 k in
     let rules = every-head _ _ (every-rest _ _ e) in
     rw (l, c) at rules
 
+-- A right loop has a pass, and a right curve a step and a point.
+pub right-passes : (i : Folded) → loopRight i ≡ true → 1 ≤ i .times
+unfolding loopRight
+right-passes i e = between-low 1 mostPasses (i .times) (every-head _ _ (every-rest _ _ e))
+
+pub right-step : (i : Folded) (ps : List Point) → curveRight i ps ≡ true → 1 ≤ i .each
+unfolding curveRight
+right-step i ps e = between-low 1 longest (i .each) (every-head _ _ e)
+
+pub right-points : (i : Folded) (ps : List Point) → curveRight i ps ≡ true → 1 ≤ i .times
+unfolding curveRight
+right-points i ps e = between-low 1 (length ps) (i .times) (every-head _ _ (every-rest _ _ e))
+
 curve-takes : (i : Folded) (ps : List Point) → i .item .kind ≡ 3 → ownRight i ps ≡ true → i .times ≤ length ps
 unfolding curveRight
-curve-takes i ps k e = between-high _ _ _ (every-head _ _ (every-rest _ _ (right-curve i ps k e)))
+curve-takes i ps k e = between-high _ _ _ (every-head _ _ (every-rest _ _ (own-curve i ps k e)))
 
 pub own-takes : (i : Folded) (ps : List Point) → ownRight i ps ≡ true → pointsOf i ≤ length ps
 own-takes i ps e = go (eqb (i .item .kind) 3) refl where

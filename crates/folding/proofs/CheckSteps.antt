@@ -15,10 +15,10 @@ use Rattle.extended.specs.declared.Extent.{Extent}
 use Rattle.extended.specs.Layout.{extendedContents, extentOf, itemsStart, foldedSize, contentsRight}
 use Rattle.extended.specs.Right.{ownRight, itemOf, endsWithin, extendedRight}
 use Rattle.extended.specs.Inner.{SmallExtent}
+use Rattle.extended.proofs.RightLaws.{contents-long, contents-whole}
 use Rattle.folding.specs.declared.Folding.the-variants.{Right, Wrong}
 use Rattle.folding.specs.Answers.{foldingOf}
 use Rattle.folding.specs.Inner.{Tabled, pointsLeft, FirstWrong, FirstOverrun}
-use Rattle.extended.proofs.RightLaws.{contents-long, contents-whole}
 use Rattle.folding.proofs.AnswerLaws.{answers-wrong, answers-right}
 use Rattle.folding.proofs.RightLaws.{extended-bad, extended-stop, extended-left, extended-used}
 

@@ -13,8 +13,8 @@ use Rattle.extended.specs.declared.Folded.{Folded}
 use Rattle.extended.specs.Layout.{extentOf, itemsStart, foldedSize}
 use Rattle.extended.specs.Folds.{foldedAt, heldBy}
 use Rattle.extended.specs.Right.{itemOf, endOf, endsWithin}
-use Rattle.folding.specs.Inner.{Tabled, FirstOverrun, Hops, at-stop, at-limit, hop, Hopped}
 use Rattle.extended.proofs.NestingLaws.{end-after, ends-within, past-table, past-holder}
+use Rattle.folding.specs.Inner.{Tabled, FirstOverrun, Hops, at-stop, at-limit, hop, Hopped}
 
 -- ---- an item's end
 

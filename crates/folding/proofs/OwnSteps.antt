@@ -18,9 +18,9 @@ use Rattle.extended.specs.Layout.{extentOf, itemsStart, pointsStart, wholeSize,
 use Rattle.extended.specs.Folds.{foldedAt}
 use Rattle.extended.specs.Points.{pointsFrom, spansRight, pointsAfter}
 use Rattle.extended.specs.Right.{ownRight, itemOf}
-use Rattle.folding.specs.Inner.{Tabled, pointsOf, pointsLeft, FirstWrong}
 use Rattle.extended.proofs.ListLaws.{points-length, points-take}
 use Rattle.extended.proofs.TakeLaws.{takes-times, takes-none, takes-left, points-behind}
+use Rattle.folding.specs.Inner.{Tabled, pointsOf, pointsLeft, FirstWrong}
 
 -- ---- the points left
 

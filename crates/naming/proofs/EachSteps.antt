@@ -25,6 +25,7 @@ use Rattle.naming.specs.declared.places.Place.{Place}
 use Rattle.naming.specs.declared.places.Place.the-variants.{At, Full}
 use Rattle.naming.specs.Named.{fits, namingOf, Namable, Names}
 use Rattle.naming.specs.Inner.{messagesIn, Standing, Keyed, Placed, placed, placed-none, EachAsked}
+use Rattle.naming.proofs.EntryLaws.{list-length}
 use Rattle.naming.proofs.GrowthLaws.{fits-both, stays-over}
 use Rattle.naming.proofs.PlaceSteps.{text-count}
 
@@ -44,10 +45,6 @@ names-over m vs count e l ns p =
     }
 
 module _ (e l : List ℕ) (n text : ℕ) (st : Standing e l n text) where
-  in-entries : length (messagesIn e l n text .entries) ≡ n
-  unfolding messagesIn
-  in-entries = entries-length e 0 n
-
   in-text : length (messagesIn e l n text .text) ≡ text
   unfolding messagesIn
   in-text = sym (text-count e l n text st)
@@ -55,9 +52,9 @@ module _ (e l : List ℕ) (n text : ℕ) (st : Standing e l n text) where
   in-answer : Named n text ≡ namingOf (messagesIn e l n text)
   unfolding namingOf pick
   in-answer =
-      let a : length (messagesIn e l n text .entries) ≤ mostMessages = rw in-entries (st .few) in
+      let a : length (messagesIn e l n text .entries) ≤ mostMessages = rw (list-length e l n text) (st .few) in
       let b : length (messagesIn e l n text .text) ≤ mostText = rw in-text (st .short) in
-      rw (fits-both (messagesIn e l n text) a b, in-entries, in-text)
+      rw (fits-both (messagesIn e l n text) a b, list-length e l n text, in-text)
 
   in-bytes : take (messageSize * length (messagesIn e l n text .entries)) e ≡ entriesBytes (messagesIn e l n text .entries)
   unfolding messagesIn

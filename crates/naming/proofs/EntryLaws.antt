@@ -14,9 +14,14 @@ use Rattle.score.specs.Encode.{le16}
 use Rattle.score.proofs.EncodingBytes.{u16-on, u16-read}
 use Rattle.filing.specs.Pieces.{entryOf}
 use Rattle.unfolding.specs.Messages.{Entry, entriesFrom, entriesBytes}
-use Rattle.naming.specs.Inner.{entryAt}
+use Rattle.unfolding.proofs.MessageLaws.{entries-length}
+use Rattle.naming.specs.Inner.{entryAt, messagesIn}
 
 -- ---- one by one
+
+pub list-length : (e l : List ℕ) (n text : ℕ) → length (messagesIn e l n text .entries) ≡ n
+unfolding messagesIn
+list-length e l n text = entries-length e 0 n
 
 -- the first of those that are left, in the code's own terms
 pub entries-next : (e : List ℕ) (i n : ℕ) → i < n → entriesFrom e (messageSize * i) (n - i) ≡ entryAt e (messageSize * i) ∷ entriesFrom e (messageSize * (i + 1)) (n - (i + 1))

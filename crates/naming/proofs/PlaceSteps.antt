@@ -29,7 +29,7 @@ use Rattle.unfolding.proofs.MessageLaws.{entries-length}
 use Rattle.naming.specs.declared.places.Place.{Place}
 use Rattle.naming.specs.declared.places.Place.the-variants.{At, Full}
 use Rattle.naming.specs.Inner.{symbol, allSymbols, keyOf, keysOf, messagesIn, allWithin, Standing, Keyed, Searchable, Finds, Joins, joins, joins-none, Placed, placed, placed-none}
-use Rattle.naming.proofs.EntryLaws.{entries-joined, bytes-joined}
+use Rattle.naming.proofs.EntryLaws.{list-length, entries-joined, bytes-joined}
 use Rattle.naming.proofs.KeyLaws.{symbol-minus, symbol-digit, symbols-more, keys-behind}
 use Rattle.naming.proofs.GrowthLaws.{within-grown, keys-grown, key-last, many, long, with-old, with-new}
 
@@ -138,17 +138,13 @@ module _ (v : ℕ) (small : v < wholeRange) (e l : List ℕ) (n text : ℕ) (st 
     unfolding numberOf messagesIn
     found-number = rw name-is at (finds .number)
 
-    in-list : length (messagesIn e l n text .entries) ≡ n
-    unfolding messagesIn
-    in-list = entries-length e 0 n
-
     keys-room : length keys′ ≡ length keys
     keys-room = ap length (finds .put) ∙ length-set keys n (keyOf (take size d))
 
     pub place-found : number < n → Placed (messagesIn e l n text) (valueOf v) e l inside keys′ (At number n text)
     place-found p =
         let f = found-number in
-        let g = in-list in
+        let g = list-length e l n text in
         let s = st .few in
         placed f (omega arith) (sym (with-old (messagesIn e l n text) (valueOf v) (omega arith))) st
         (record {
@@ -161,7 +157,7 @@ module _ (v : ℕ) (small : v < wholeRange) (e l : List ℕ) (n text : ℕ) (st 
       joined-value : withValue (messagesIn e l n text) (valueOf v) ≡ joined (messagesIn e l n text) (take size d)
       joined-value =
           let f = found-number in
-          let g = in-list in
+          let g = list-length e l n text in
           with-new (messagesIn e l n text) (valueOf v) (omega arith) ∙ ap (λ (x : List ℕ). joined (messagesIn e l n text) x) (sym name-is)
 
       module _ (t : ℕ) (is : messagesIn e′ l′ (n + 1) t ≡ joined (messagesIn e l n text) (take size d)) (st′ : Standing e′ l′ (n + 1) t) where

@@ -13,8 +13,8 @@ use Rattle.values.proofs.SpanLaws.{span-length}
 use Rattle.extended.specs.Layout.{pointSize}
 use Rattle.extended.specs.Points.{pointAt, pointsFrom}
 use Rattle.extended.specs.Inner.{wordRange}
-use Rattle.tables.specs.Inner.{mostCount, Drawn}
 use Rattle.extended.proofs.ListLaws.{points-more}
+use Rattle.tables.specs.Inner.{mostCount, Drawn}
 
 -- ---- one span
 

@@ -11,7 +11,6 @@ use mir.Val.{Fits}
 use borrow.Author.Tests.{eq-eqb, ne-eqb}
 use borrow.Author.Needs.{needs}
 use Rattle.base.specs.Tests.{pick}
-use Rattle.base.proofs.TestLaws.{every-head, every-rest, between-low}
 use Rattle.contents.specs.Bytes.{u32At}
 use Rattle.values.specs.Integers.{fromBits}
 use Rattle.values.specs.Curves.{Point, curveValues}
@@ -21,10 +20,10 @@ use Rattle.extended.specs.declared.Folded.{Folded}
 use Rattle.extended.specs.Layout.{foldedSize, pointSize, itemsStart, pointsStart}
 use Rattle.extended.specs.Folds.{foldedAt, foldedFrom}
 use Rattle.extended.specs.Points.{pointAt, pointsFrom, pointsAfter, valuesOf, allValues}
-use Rattle.extended.specs.Right.{curveRight, ownRight}
+use Rattle.extended.specs.Right.{ownRight}
 use Rattle.extended.specs.Inner.{SmallFolded, Folds, fold, Foldable}
 use Rattle.extended.proofs.ListLaws.{points-take, folded-more, folded-none}
-use Rattle.extended.proofs.TakeLaws.{takes-times, takes-none, right-curve, takes-left, points-behind}
+use Rattle.extended.proofs.TakeLaws.{takes-times, takes-none, own-curve, right-step, right-points, takes-left, points-behind}
 use Rattle.tables.specs.Inner.{pointsOf, timesAs, itemsLeft, pointsLeft, ItemIn, PointIn, Reached, Drawn}
 
 -- ---- what is read
@@ -57,14 +56,6 @@ module _ (i : Folded) where
     unfolding valuesOf pick
     values-curve ps = rw (eq-eqb _ 3 e)
 
-    some-points : (ps : List Point) → ownRight i ps ≡ true → 1 ≤ i .times
-    unfolding curveRight
-    some-points ps r = between-low _ _ _ (every-head _ _ (every-rest _ _ (right-curve i ps e r)))
-
-    some-step : (ps : List Point) → ownRight i ps ≡ true → 1 ≤ i .each
-    unfolding curveRight
-    some-step ps r = between-low _ _ _ (every-head _ _ (right-curve i ps e r))
-
   module _ (n : i .item .kind ≡ curve → ⊥) where
     pub times-plain : (m : ℕ) → i .times ≡ timesAs i m
     unfolding timesAs pick
@@ -92,9 +83,9 @@ module _ (f : List ℕ) (c : Extent) (used : ℕ) (i : Folded) (asked : Reached 
         let t = taken in
         let u = asked .points in
         record {
-          some = some-points i e (pointsLeft f c used) (asked .right);
+          some = right-points i (pointsLeft f c used) (own-curve i (pointsLeft f c used) e (asked .right));
           few = asked .small .times;
-          stepped = some-step i e (pointsLeft f c used) (asked .right);
+          stepped = right-step i (pointsLeft f c used) (own-curve i (pointsLeft f c used) e (asked .right));
           small = asked .small .each;
           within = omega arith;
         }

@@ -9,27 +9,17 @@ use lib.IntN.{ℤ}
 use lib.ListN.{length, take}
 use borrow.Author.Tests.{leb-true}
 use Rattle.base.specs.Tests.{pick}
-use Rattle.base.proofs.TestLaws.{every-head, every-rest, between-low}
-use Rattle.contents.specs.Limits.{longest}
+use Rattle.base.proofs.TestLaws.{every-head, every-rest}
 use Rattle.values.specs.Curves.{Point, valuesOn, curveValues}
 use Rattle.values.proofs.SpanLaws.{stepsOn, lastPoint, Spans, curve-between, curve-length, curve-closes, curve-opens}
 use Rattle.extended.specs.declared.Folded.{Folded}
 use Rattle.extended.specs.Points.{spansOn, spansRight, valuesOf}
-use Rattle.extended.specs.Right.{mostPasses, loopRight, curveRight}
+use Rattle.extended.specs.Right.{curveRight}
+use Rattle.extended.proofs.TakeLaws.{right-step}
 
--- A right loop has a pass, and a right curve a step and a point.
-pub right-passes : (i : Folded) → loopRight i ≡ true → 1 ≤ i .times
-unfolding loopRight
-right-passes i e = between-low 1 mostPasses (i .times) (every-head _ _ (every-rest _ _ e))
-
-module _ (i : Folded) (ps : List Point) (e : curveRight i ps ≡ true) where
-  right-step : 1 ≤ i .each
-  unfolding curveRight
-  right-step = between-low 1 longest (i .each) (every-head _ _ e)
-
-  right-spans : spansRight (i .each) (take (i .times) ps) ≡ true
-  unfolding curveRight
-  right-spans = every-head _ _ (every-rest _ _ (every-rest _ _ (every-rest _ _ e)))
+right-spans : (i : Folded) (ps : List Point) → curveRight i ps ≡ true → spansRight (i .each) (take (i .times) ps) ≡ true
+unfolding curveRight
+right-spans i ps e = every-head _ _ (every-rest _ _ (every-rest _ _ (every-rest _ _ e)))
 
 some-point : (step : ℕ) (l : List Point) → spansRight step l ≡ true → (p : Point) × (qs : List Point) × (l ≡ p ∷ qs)
 unfolding spansRight

@@ -25,6 +25,7 @@ use Rattle.score.proofs.EncodingPieces.{durations-size, items-size, contents-si
 use Rattle.score.proofs.EncodingFiles.{encode-decode}
 use Rattle.extended.specs.Layout.{extentOf}
 use Rattle.extended.specs.Right.{itemOf, extendedRight}
+use Rattle.extended.proofs.RightLaws.{right-nests}
 use Rattle.unfolding.specs.Messages.{Entry, entriesBytes}
 use Rattle.unfolding.specs.Extended.{extendedOf}
 use Rattle.unfolding.specs.Unfolded.{items, page}
@@ -32,7 +33,6 @@ use Rattle.unfolding.specs.Pieces.{labelIn, labelsIn, pieceOf}
 use Rattle.unfolding.specs.Sizes.{Score, scoreOf, countsOn, withinLimits, fileOf}
 use Rattle.unfolding.specs.Answers.{unfoldedFile}
 use Rattle.unfolding.proofs.CountLaws.{page-length}
-use Rattle.extended.proofs.RightLaws.{right-nests}
 use Rattle.unfolding.proofs.SelfLaws.{itemIn, same-items, same-messages, same-durations}
 use Rattle.unfolding.proofs.Fitting.{FitEntries, no-entry, fit-entry, Fit, score-fits}
 

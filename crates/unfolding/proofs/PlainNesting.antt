@@ -23,8 +23,8 @@ use Rattle.extended.specs.Layout.{extentOf}
 use Rattle.extended.specs.Folds.{heldBy}
 use Rattle.extended.specs.Points.{pointsAfter}
 use Rattle.extended.specs.Right.{plainRight, ownRight, itemOf, endOf, endsWithin, foldsRight}
-use Rattle.unfolding.specs.Unfolded.{withinOf as within, items}
 use Rattle.extended.proofs.NestingLaws.{ends-within}
+use Rattle.unfolding.specs.Unfolded.{withinOf as within, items}
 use Rattle.unfolding.proofs.Nesting.{Ends, end-is}
 use Rattle.unfolding.specs.Plain.{plainItem}
 

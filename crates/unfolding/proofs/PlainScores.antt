@@ -35,13 +35,13 @@ use Rattle.extended.specs.Layout.{foldedSize, extentOf, itemsStart, pointsStart
 use Rattle.extended.specs.Folds.{foldedAt, foldedFrom}
 use Rattle.extended.specs.Points.{pointsFrom}
 use Rattle.extended.specs.Right.{itemOf, foldsRight, extendedRight}
+use Rattle.extended.proofs.RightLaws.{right-nests}
 use Rattle.unfolding.specs.declared.Unfolding.the-variants.{Made}
 use Rattle.unfolding.specs.Messages.{entriesBytes}
 use Rattle.unfolding.specs.Extended.{extendedOf, Numbered, numberedBy}
 use Rattle.unfolding.specs.Unfolded.{Unfolded, becomes, withinOf as within, unfolded, items, actions, depth, page}
 use Rattle.unfolding.specs.Sizes.{Score, scoreOf, countsOn, withinLimits}
 use Rattle.unfolding.specs.Answers.{unfoldedFile, unfoldAnswer}
-use Rattle.extended.proofs.RightLaws.{right-nests}
 use Rattle.unfolding.proofs.LimitLaws.{limits-hold}
 use Rattle.unfolding.proofs.Nesting.{Ends}
 use Rattle.unfolding.proofs.SelfLaws.{bare, itemIn, held-is, same-numbered, same-items, ownCounts, same-counts, unfolds-to-itself}
