@@ -25,9 +25,18 @@ use Rattle.fates.proofs.ReadLaws.{next-of}
 use Rattle.fates.proofs.OutcomeLaws.{heard-date}
 
 module _ (t : Places) (m : List ℕ) (j d s : ℕ) (is : s ≡ readingIn t m .start j) where
-  pub past-is : ltb d s ≡ past (readingIn t m) j d
-  unfolding past
+  pub past-is : ltb (d + t .grace .0) s ≡ past (readingIn t m) j d
+  unfolding past readingIn
   past-is = rw is
+
+  -- the later of its own date and E(j)
+  pub future-raised : d < s → s ≡ futureDate (readingIn t m) j d
+  unfolding futureDate
+  future-raised l = omega arith
+
+  pub future-kept : s ≤ d → d ≡ futureDate (readingIn t m) j d
+  unfolding futureDate
+  future-kept l = omega arith
 
   pub global-start-is : s ≡ globalStart (readingIn t m) j d
   unfolding globalStart

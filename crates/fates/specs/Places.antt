@@ -19,6 +19,7 @@ pub record PlacesFit (t : Places) (room : ℕ) : Type 0 where
   pub some : 1 ≤ t .events
   pub few : t .events ≤ 256
   pub page : t .size ≤ 2048
+  pub grace : t .grace .0 ≤ 630
 
 -- What is read of the words m stands before the outcomes, so that writing these leaves it alone.
 abbrev pub read : Places → List ℕ → List ℕ
@@ -41,9 +42,9 @@ halved (suc n) start lo size d =
 unfoldable pub lastIn : Places → List ℕ → ℕ → ℕ
 lastIn t m d = halved 8 (startAt t m) 1 (t .events) d
 
--- The rules' reading of the words.
+-- The rules' reading of the words, with the grace that stands beside them.
 unfoldable pub readingIn : Places → List ℕ → Reading
-readingIn t m = record { start = startAt t m; lastBefore = lastIn t m; became = becameIn t m }
+readingIn t m = record { start = startAt t m; lastBefore = lastIn t m; became = becameIn t m; grace = t .grace .0 }
 
 unfoldable pub itemsIn : Places → List ℕ → List Item
 itemsIn t m = map itemIn (take (t .size) (drop (t .items) (read t m)))

@@ -16,20 +16,22 @@ ghost use Rattle.fates.specs.Fields.{startNumbers};
 ghost use Rattle.fates.specs.Places.{PlacesFit, readingIn};
 ghost use Rattle.fates.specs.Fates.{FateBounded};
 
-// "the items starting before E(j) are past, the others future"
+// "An item is past exactly if its date plus g is before E(j)"
 fn past(mem: &[u64], t: Places, j: usize, date: Grains) -> bool
-    requires { ⌜ PlacesFit t (length (now mem)) × (j ≤ 256) ⌝ }
+    requires { ⌜ PlacesFit t (length (now mem)) × (j ≤ 256) × (date .0 < 2 ^ 51) ⌝ }
     ensures { λ r. ⌜ r ≡ Rules.past (readingIn t (now (mem .entry))) j (date .0) ⌝ }
 {
-    date.0 < words::start_of(mem, t, j).0
+    let g = t.grace;
+    date.0 + g.0 < words::start_of(mem, t, j).0
 }
 
-// The date that a future item has where it is heard at j.
+// The date that a future item has where it is heard at j: "its delay is never below 0".
 fn future_date(mem: &[u64], t: Places, j: usize, own: Grains) -> Grains
     requires { ⌜ PlacesFit t (length (now mem)) × (j ≤ 256) ⌝ }
     ensures { λ r. ⌜ (r .0 ≡ Rules.futureDate (readingIn t (now (mem .entry))) j (own .0)) × (r .0 ≤ own .0 + 2 ^ 31) ⌝ }
 {
-    own
+    let start = words::start_of(mem, t, j);
+    if own.0 < start.0 { start } else { own }
 }
 
 // Where a missed global group starts that is heard at j.

@@ -8,8 +8,8 @@ use Rattle.menu.specs.declared.table.Marks.{Marks}
 use Rattle.menu.specs.Table.{Row, nameWidth, usageWidth, helpWidth}
 
 -- The row of these.
-abbrev pub rowWith : (name usage help : List ℕ) (least most reads : ℕ) → Row
-rowWith name usage help least most reads = record { name = name; usage = usage; help = help; least = least; most = most; reads = reads }
+abbrev pub rowWith : (name usage help : List ℕ) (least most files reads : ℕ) → Row
+rowWith name usage help least most files reads = record { name = name; usage = usage; help = help; least = least; most = most; files = files; reads = reads }
 
 -- The row's texts stand one behind the other from the front, none wider than its column, and the marks say where each ends.
 pub record Holds (out : List ℕ) (row : Row) (new : List ℕ) (r : Marks) : Type 0 where
@@ -19,6 +19,7 @@ pub record Holds (out : List ℕ) (row : Row) (new : List ℕ) (r : Marks) : Typ
   pub help : r .help ≡ r .usage + length (row .help)
   pub least : r .least ≡ row .least
   pub most : r .most ≡ row .most
+  pub files : r .files ≡ row .files
   pub reads : r .reads ≡ row .reads
   pub brief : length (row .name) ≤ nameWidth
   pub narrow : length (row .usage) < usageWidth

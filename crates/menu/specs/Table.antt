@@ -9,13 +9,15 @@ use Rattle.menu.specs.declared.Command.the-variants.{Check, Play, Read, 
 use Rattle.menu.specs.declared.table.Lookup.{Lookup}
 use Rattle.menu.specs.declared.table.Lookup.the-variants.{Known, Unknown}
 
--- A command's name, how it is used, what it is for, how many names it takes, and how many of them are read: the others are written.
+-- A command's name, how it is used, what it is for, how many arguments it takes, how many of them, the first ones, are names of files, where each argument behind
+-- these is a number, and how many of the files are read: the others are written.
 pub record Row : Type 0 where
   pub name : List ℕ
   pub usage : List ℕ
   pub help : List ℕ
   pub least : ℕ
   pub most : ℕ
+  pub files : ℕ
   pub reads : ℕ
 
 -- As many as there may be.
@@ -31,15 +33,17 @@ rowOf Check =
       help = bytesOf "says of each file what is in it, or why it is refused";
       least = 1;
       most = anyNumber;
+      files = anyNumber;
       reads = anyNumber;
     }
 rowOf Play =
     record {
       name = bytesOf "play";
-      usage = bytesOf "play FILE COMMANDS";
-      help = bytesOf "plays a score by commands, and prints what the electronics are sent";
+      usage = bytesOf "play FILE COMMANDS [GRACE]";
+      help = bytesOf "plays a score by commands, and prints what is sent; GRACE is 0 to 630 grains";
       least = 2;
-      most = 2;
+      most = 3;
+      files = 2;
       reads = 2;
     }
 rowOf Read =
@@ -49,6 +53,7 @@ rowOf Read =
       help = bytesOf "reads a score that is written as text, and makes its file";
       least = 2;
       most = 2;
+      files = 2;
       reads = 1;
     }
 rowOf Write =
@@ -58,6 +63,7 @@ rowOf Write =
       help = bytesOf "writes a score as text, to be read, corrected and sent back";
       least = 2;
       most = 2;
+      files = 2;
       reads = 1;
     }
 rowOf Unfold =
@@ -67,10 +73,11 @@ rowOf Unfold =
       help = bytesOf "unfolds the loops and curves of an extended score, and makes its file";
       least = 2;
       most = 2;
+      files = 2;
       reads = 1;
     }
-rowOf Replies = record { name = bytesOf "replies"; usage = bytesOf "replies"; help = bytesOf "lists the reply numbers with their words"; least = 0; most = 0; reads = 0 }
-rowOf Help = record { name = bytesOf "help"; usage = bytesOf "help"; help = bytesOf "lists the commands"; least = 0; most = 0; reads = 0 }
+rowOf Replies = record { name = bytesOf "replies"; usage = bytesOf "replies"; help = bytesOf "lists the reply numbers with their words"; least = 0; most = 0; files = 0; reads = 0 }
+rowOf Help = record { name = bytesOf "help"; usage = bytesOf "help"; help = bytesOf "lists the commands"; least = 0; most = 0; files = 0; reads = 0 }
 
 -- The order in which they are listed.
 unfoldable pub commands : List Command

@@ -19,13 +19,14 @@ pub const COUNT: usize = 7;
 // As many names as there may be.
 const ANY_NUMBER: usize = 18446744073709551615;
 
-// A row whose texts stand in lent bytes one behind the other: where each ends, how many names the command takes, and how many of them are read.
+// A row whose texts stand in lent bytes one behind the other: where each ends, how many arguments the command takes, how many of them are names of files, and how many of these are read.
 pub struct Marks {
     pub name: usize,
     pub usage: usize,
     pub help: usize,
     pub least: usize,
     pub most: usize,
+    pub files: usize,
     pub reads: usize,
 }
 
@@ -43,10 +44,11 @@ fn lay_row(
     help: &[u8],
     least: usize,
     most: usize,
+    files: usize,
     reads: usize,
 ) -> Marks
     requires { ⌜ (rowRoom ≤ length (now out)) × (length (now name) ≤ nameWidth) × (length (now usage) < usageWidth) × (length (now help) ≤ helpWidth) ⌝ }
-    ensures { λ r. ⌜ Holds (now (out .entry)) (rowWith (now (name .entry)) (now (usage .entry)) (now (help .entry)) least most reads) (now (out .exit)) r ⌝ }
+    ensures { λ r. ⌜ Holds (now (out .entry)) (rowWith (now (name .entry)) (now (usage .entry)) (now (help .entry)) least most files reads) (now (out .exit)) r ⌝ }
 {
     let named = put_bytes(out, 0, name);
     let used = put_bytes(out, named, usage);
@@ -57,6 +59,7 @@ fn lay_row(
         help: helped,
         least: least,
         most: most,
+        files: files,
         reads: reads,
     }
 }
@@ -75,13 +78,15 @@ pub fn put_row(out: &mut [u8], c: Command) -> Marks
             1,
             ANY_NUMBER,
             ANY_NUMBER,
+            ANY_NUMBER,
         ),
         Command::Play => lay_row(
             out,
             b"play",
-            b"play FILE COMMANDS",
-            b"plays a score by commands, and prints what the electronics are sent",
+            b"play FILE COMMANDS [GRACE]",
+            b"plays a score by commands, and prints what is sent; GRACE is 0 to 630 grains",
             2,
+            3,
             2,
             2,
         ),
@@ -90,6 +95,7 @@ pub fn put_row(out: &mut [u8], c: Command) -> Marks
             b"read",
             b"read TEXT FILE",
             b"reads a score that is written as text, and makes its file",
+            2,
             2,
             2,
             1,
@@ -101,6 +107,7 @@ pub fn put_row(out: &mut [u8], c: Command) -> Marks
             b"writes a score as text, to be read, corrected and sent back",
             2,
             2,
+            2,
             1,
         ),
         Command::Unfold => lay_row(
@@ -108,6 +115,7 @@ pub fn put_row(out: &mut [u8], c: Command) -> Marks
             b"unfold",
             b"unfold EXTENDED FILE",
             b"unfolds the loops and curves of an extended score, and makes its file",
+            2,
             2,
             2,
             1,
@@ -120,8 +128,9 @@ pub fn put_row(out: &mut [u8], c: Command) -> Marks
             0,
             0,
             0,
+            0,
         ),
-        Command::Help => lay_row(out, b"help", b"help", b"lists the commands", 0, 0, 0),
+        Command::Help => lay_row(out, b"help", b"help", b"lists the commands", 0, 0, 0, 0),
     }
 }
 

@@ -3,7 +3,7 @@ use mathlib.Core.Bool.{Bool, true, false}
 use Rattle.streams.specs.declared.ending.Ending.{Ending}
 use Rattle.streams.specs.declared.ending.Ending.the-variants.{Done, Failed}
 use Rattle.orders.specs.declared.Usage.{Usage}
-use Rattle.orders.specs.declared.Usage.the-variants.{Right, Wished, NoCommand, NoOption, TooFew, TooMany, InputTwice}
+use Rattle.orders.specs.declared.Usage.the-variants.{Right, Wished, NoCommand, NoOption, TooFew, TooMany, NoNumber, InputTwice}
 
 -- A wrong usage has failed; any other order ends as it was carried out.
 abbrev pub endingOf : Usage → (done : Ending) → Ending
@@ -13,6 +13,7 @@ endingOf NoCommand done = Failed
 endingOf NoOption done = Failed
 endingOf TooFew done = Failed
 endingOf TooMany done = Failed
+endingOf NoNumber done = Failed
 endingOf InputTwice done = Failed
 
 -- What could not be read or written has failed.

@@ -7,7 +7,7 @@ use Rattle.ascii.specs.Text.{bytesOf}
 use Rattle.ascii.specs.Words.{space, newline}
 use Rattle.menu.specs.Table.{Row, rowOf}
 use Rattle.orders.specs.declared.Usage.{Usage}
-use Rattle.orders.specs.declared.Usage.the-variants.{Right, Wished, NoCommand, NoOption, TooFew, TooMany, InputTwice}
+use Rattle.orders.specs.declared.Usage.the-variants.{Right, Wished, NoCommand, NoOption, TooFew, TooMany, NoNumber, InputTwice}
 use Rattle.orders.specs.declared.Order.{Order}
 use Rattle.orders.specs.Usage.{dash}
 
@@ -41,6 +41,7 @@ misuseOf NoCommand row arg = fault arg (bytesOf ": no such command. bin/poolmirr
 misuseOf NoOption row arg = faultUsage arg (bytesOf ": no such option. Before a name that begins with a dash write --\n") row
 misuseOf TooFew row arg = missing row
 misuseOf TooMany row arg = faultUsage arg (bytesOf ": one argument too many\n") row
+misuseOf NoNumber row arg = faultUsage arg (bytesOf ": not a whole number of 1 to 10 digits\n") row
 misuseOf InputTwice row arg = faultUsage dash (bytesOf ": standard input can't be read twice\n") row
 
 -- The lines that tell of a wrong usage, where arg is the argument at fault; nothing where none is.

@@ -4,6 +4,7 @@ use mathlib.Core.Bool.{Bool, true, false}
 use mathlib.Core.List.{List, [], _∷_}
 use lib.Dec.{eqb, leb, ltb}
 use Rattle.base.specs.Tests.{pick, every}
+use Rattle.ascii.specs.Numbers.{isNumber, value}
 use Rattle.ascii.specs.Text.{bytesOf}
 use Rattle.ascii.specs.Words.{begins, same}
 use Rattle.menu.specs.declared.Command.{Command}
@@ -14,7 +15,7 @@ use Rattle.menu.specs.Table.{rowOf, commandNamed}
 use Rattle.orders.specs.declared.Argument.{Argument}
 use Rattle.orders.specs.declared.Argument.the-variants.{Name, Plain, Wish, Dashed}
 use Rattle.orders.specs.declared.Usage.{Usage}
-use Rattle.orders.specs.declared.Usage.the-variants.{Right, Wished, NoCommand, NoOption, TooFew, TooMany, InputTwice}
+use Rattle.orders.specs.declared.Usage.the-variants.{Right, Wished, NoCommand, NoOption, TooFew, TooMany, NoNumber, InputTwice}
 use Rattle.orders.specs.declared.Names.{Names}
 use Rattle.orders.specs.declared.Order.{Order}
 
@@ -57,10 +58,10 @@ nameMore n i =
 
 -- An order with no names; one with what was found at an argument.
 unfoldable pub fresh : Command → Usage → (at : ℕ) → Order
-fresh c u at = record { command = c; names = noNames; inputs = 0; plain = false; usage = u; at = at }
+fresh c u at = record { command = c; names = noNames; inputs = 0; number = 0; plain = false; usage = u; at = at }
 
 unfoldable pub stopped : Order → Usage → (at : ℕ) → Order
-stopped o u at = record { command = o .command; names = o .names; inputs = o .inputs; plain = o .plain; usage = u; at = at }
+stopped o u at = record { command = o .command; names = o .names; inputs = o .inputs; number = o .number; plain = o .plain; usage = u; at = at }
 
 -- Nothing was found.
 unfoldable pub isRight : Usage → Bool
@@ -70,6 +71,7 @@ isRight NoCommand = false
 isRight NoOption = false
 isRight TooFew = false
 isRight TooMany = false
+isRight NoNumber = false
 isRight InputTwice = false
 
 -- ---- the first argument
@@ -93,21 +95,34 @@ begun arg = begunAs (argumentOf false arg) arg
 
 -- The order with a name more, where so many of the names are standard input.
 unfoldable pub named : Order → (i inputs : ℕ) → Order
-named o i inputs = record { command = o .command; names = nameMore (o .names) i; inputs = inputs; plain = o .plain; usage = o .usage; at = o .at }
+named o i inputs = record { command = o .command; names = nameMore (o .names) i; inputs = inputs; number = o .number; plain = o .plain; usage = o .usage; at = o .at }
+
+-- The order with a number more, which is argument i: it counts among the names.
+unfoldable pub numbered : Order → (i number : ℕ) → Order
+numbered o i number =
+    record { command = o .command; names = nameMore (o .names) i; inputs = o .inputs; number = number; plain = o .plain; usage = o .usage; at = o .at }
 
 -- The name is standard input's: it is `-`, where a file is read. Where one is written it is standard output's.
 unfoldable pub isInput : Order → List ℕ → Bool
 isInput o arg = every (same dash arg ∷ ltb (o .names .count) (rowOf (o .command) .reads) ∷ [])
 
--- A name, which is argument i: one more than the command takes, and standard input a second time, are faults.
+-- The name of a file, which is argument i: standard input a second time is a fault.
+unfoldable pub fileTaken : Order → (i : ℕ) → List ℕ → Order
+fileTaken o i arg = pick (isInput o arg) (pick (leb 1 (o .inputs)) (stopped o InputTwice i) (named o i (o .inputs + 1))) (named o i (o .inputs))
+
+-- A number, of 1 to 10 digits: anything else is a fault.
+unfoldable pub numberTaken : Order → (i : ℕ) → List ℕ → Order
+numberTaken o i arg = pick (isNumber arg) (numbered o i (value arg)) (stopped o NoNumber i)
+
+-- A name, which is argument i: a file's, or a number behind these. One more than the command takes is a fault.
 unfoldable pub nameTaken : Order → (i : ℕ) → List ℕ → Order
 nameTaken o i arg =
     pick (leb (rowOf (o .command) .most) (o .names .count)) (stopped o TooMany i)
-    (pick (isInput o arg) (pick (leb 1 (o .inputs)) (stopped o InputTwice i) (named o i (o .inputs + 1))) (named o i (o .inputs)))
+    (pick (leb (rowOf (o .command) .files) (o .names .count)) (numberTaken o i arg) (fileTaken o i arg))
 
 -- The `--`, behind which each argument is a name.
 unfoldable pub takenPlain : Order → Order
-takenPlain o = record { command = o .command; names = o .names; inputs = o .inputs; plain = true; usage = o .usage; at = o .at }
+takenPlain o = record { command = o .command; names = o .names; inputs = o .inputs; number = o .number; plain = true; usage = o .usage; at = o .at }
 
 -- One argument more, by what it is.
 unfoldable pub takenAs : Order → (i : ℕ) → Argument → List ℕ → Order

@@ -4,12 +4,14 @@ ghost use mathlib.Core.List.{[]};
 ghost use Prim.Native.Nat.{_<_};
 ghost use Rattle.ascii.specs.Words.{same};
 ghost use Rattle.menu.specs.Table.{rowOf, anyNumber};
-ghost use Rattle.orders.specs.Usage.{argumentOf, isName, nameMore, fresh, stopped, isRight, begunNamed, begun, named, isInput, nameTaken, takenPlain, takenAs, taken, closed, dash, ordered};
+ghost use Rattle.orders.specs.Usage.{argumentOf, isName, nameMore, fresh, stopped, isRight, begunNamed, begun, named, numbered, isInput, fileTaken, numberTaken, nameTaken, takenPlain, takenAs, taken, closed, dash, ordered};
 use crate::Argument;
 use crate::Names;
 use crate::Order;
 use crate::Usage;
+use ascii::Number;
 use ascii::begins;
+use ascii::read_number;
 use ascii::same;
 use menu::Command;
 use menu::Lookup;
@@ -17,7 +19,7 @@ use menu::ROW_ROOM;
 use menu::find_command;
 use menu::put_row;
 
-// How many names the command takes at least, and at most.
+// How many arguments the command takes at least, and at most.
 fn least(c: Command) -> usize
     ensures { λ r. ⌜ r ≡ rowOf c .least ⌝ }
 {
@@ -34,7 +36,16 @@ fn most(c: Command) -> usize
     row.most
 }
 
-// How many of the names are read, the first ones.
+// How many of the arguments are names of files, the first ones.
+fn files(c: Command) -> usize
+    ensures { λ r. ⌜ r ≡ rowOf c .files ⌝ }
+{
+    let mut text = [0; ROW_ROOM];
+    let row = put_row(&mut text, c);
+    row.files
+}
+
+// How many of the files are read, the first ones.
 fn reads(c: Command) -> usize
     ensures { λ r. ⌜ r ≡ rowOf c .reads ⌝ }
 {
@@ -119,6 +130,7 @@ fn fresh(c: Command, u: Usage, at: usize) -> Order
         command: c,
         names: n,
         inputs: 0,
+        number: 0,
         plain: false,
         usage: u,
         at: at,
@@ -135,6 +147,7 @@ fn stopped(o: Order, u: Usage, at: usize) -> Order
         command: c,
         names: n,
         inputs: o.inputs,
+        number: o.number,
         plain: o.plain,
         usage: u,
         at: at,
@@ -152,6 +165,7 @@ fn is_right(u: Usage) -> bool
         Usage::NoOption => false,
         Usage::TooFew => false,
         Usage::TooMany => false,
+        Usage::NoNumber => false,
         Usage::InputTwice => false,
     }
 }
@@ -197,6 +211,26 @@ fn named(o: Order, i: usize, inputs: usize) -> Order
         command: c,
         names: n,
         inputs: inputs,
+        number: o.number,
+        plain: o.plain,
+        usage: u,
+        at: o.at,
+    }
+}
+
+// The order with a number more.
+fn numbered(o: Order, i: usize, number: u64) -> Order
+    requires { ⌜ o .names .count < anyNumber ⌝ }
+    ensures { λ r. ⌜ r ≡ numbered o i number ⌝ }
+{
+    let c = o.command;
+    let n = name_more(o.names, i);
+    let u = o.usage;
+    Order {
+        command: c,
+        names: n,
+        inputs: o.inputs,
+        number: number,
         plain: o.plain,
         usage: u,
         at: o.at,
@@ -215,7 +249,32 @@ fn is_input(o: Order, arg: &[u8]) -> bool
     n.count < reads(c)
 }
 
-// A name: one more than the command takes, or standard input a second time, is a fault.
+// The name of a file: standard input a second time is a fault.
+fn take_file(o: Order, i: usize, arg: &[u8]) -> Order
+    requires { ⌜ o .names .count < anyNumber ⌝ }
+    ensures { λ r. ⌜ r ≡ fileTaken o i (now (arg .entry)) ⌝ }
+{
+    if is_input(o, arg) {
+        if 1 <= o.inputs {
+            return stopped(o, Usage::InputTwice, i);
+        }
+        return named(o, i, o.inputs + 1);
+    }
+    named(o, i, o.inputs)
+}
+
+// A number: anything else is a fault.
+fn take_number(o: Order, i: usize, arg: &[u8]) -> Order
+    requires { ⌜ o .names .count < anyNumber ⌝ }
+    ensures { λ r. ⌜ r ≡ numberTaken o i (now (arg .entry)) ⌝ }
+{
+    let Number::Read(n) = read_number(arg) else {
+        return stopped(o, Usage::NoNumber, i);
+    };
+    numbered(o, i, n)
+}
+
+// A name: a file's, or a number behind these. One more than the command takes is a fault.
 fn take_name(o: Order, i: usize, arg: &[u8]) -> Order
     ensures { λ r. ⌜ r ≡ nameTaken o i (now (arg .entry)) ⌝ }
 {
@@ -224,13 +283,10 @@ fn take_name(o: Order, i: usize, arg: &[u8]) -> Order
     if most(c) <= n.count {
         return stopped(o, Usage::TooMany, i);
     }
-    if is_input(o, arg) {
-        if 1 <= o.inputs {
-            return stopped(o, Usage::InputTwice, i);
-        }
-        return named(o, i, o.inputs + 1);
+    if files(c) <= n.count {
+        return take_number(o, i, arg);
     }
-    named(o, i, o.inputs)
+    take_file(o, i, arg)
 }
 
 // The order, where each argument from here on is a name.
@@ -244,6 +300,7 @@ fn take_plain(o: Order) -> Order
         command: c,
         names: n,
         inputs: o.inputs,
+        number: o.number,
         plain: true,
         usage: u,
         at: o.at,

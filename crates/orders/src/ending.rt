@@ -15,6 +15,7 @@ pub fn ending_of(u: Usage, done: Ending) -> Ending
         Usage::NoOption => Ending::Failed,
         Usage::TooFew => Ending::Failed,
         Usage::TooMany => Ending::Failed,
+        Usage::NoNumber => Ending::Failed,
         Usage::InputTwice => Ending::Failed,
     }
 }

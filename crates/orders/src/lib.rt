@@ -32,6 +32,7 @@ pub enum Usage {
     NoOption,
     TooFew,
     TooMany,
+    NoNumber,
     InputTwice,
 }
 
@@ -42,11 +43,12 @@ pub struct Names {
     pub second: usize,
 }
 
-// What is ordered so far: the command, its names, how many of them are standard input, and whether `--` was passed; `at` is the argument at fault.
+// What is ordered so far: the command, its names, how many of them are standard input, the number behind them, 0 where there is none, and whether `--` was passed; `at` is the argument at fault.
 pub struct Order {
     pub command: Command,
     pub names: Names,
     pub inputs: usize,
+    pub number: u64,
     pub plain: bool,
     pub usage: Usage,
     pub at: usize,

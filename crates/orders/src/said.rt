@@ -90,6 +90,12 @@ pub fn misuse_line(out: &mut [u8], o: Order, arg: &[u8]) -> usize
         ),
         Usage::TooFew => put_missing(out, c),
         Usage::TooMany => put_fault_usage(out, arg, b": one argument too many\n", c),
+        Usage::NoNumber => put_fault_usage(
+            out,
+            arg,
+            b": not a whole number of 1 to 10 digits\n",
+            c,
+        ),
         Usage::InputTwice => put_fault_usage(
             out,
             b"-",

@@ -113,7 +113,7 @@ module _ (R : Reading) (j : ℕ) where
     unfolding futureItems fateOf
     future-select b x =
         sift-select R (futureDate R j) (future-rises R j) _ _ (heardGroup y e j (R .start j)) (heardFate R y e j) (R .start j) (λ n. refl) b 0 0 (R .start j) x
-        (add-zero _) (λ t l p. future-from R j t (not-past t p)) (λ t l p. future-from R j t (not-past t p))
+        (add-zero _) (λ t l p. future-from R j t) (λ t l p. future-from R j t)
 
     cut : (b : ℕ) (x : Seq) → ((n : ℕ) → fateOf R (missedGroup y e j b) n ≡ either (b + n)) →
         run R (missedGroup y e j b) 0 x ≡ sift R (past R j) (past R j) P b 0 x ++ run R (heardGroup y e j (R .start j)) 0 (futureItems R j b x)

@@ -42,7 +42,7 @@ module _ (P Q : (event date : ℕ) → Type 0) where
     where
       go : (v : Bool) → past R j t ≡ v → FateWith (pick v f g)
       go true p = a
-      go false p = b (future-from R j t p)
+      go false p = b (future-from R j t)
 
   -- A missed group's item, by its date, where it is heard with its global group, and where it is future.
   pub missed-with : (R : Reading) (e : ErrorWord) (j b s : ℕ) (hear : ℕ → Fate) → Q j (b + s) → FateWith (hear (globalStart R j b + s)) →

@@ -10,6 +10,7 @@ pub mod Events
 pub mod Readings
 pub mod Grow
 pub mod Sound
+pub mod GraceLaws
 pub mod Bounds
 pub mod Places
 pub mod OwnPart

@@ -1,22 +1,24 @@
 -- Past and future items, by their dates: all that other laws use of `past` and `futureDate`, so no other proof looks into them.
 -- Assumes nothing.
-use mathlib.Core.Path.{_≡_}
-use Prim.Native.Nat.{ℕ, _≤_}
-use mathlib.Core.Bool.{false}
+use mathlib.Core.Path.{_≡_, ap}
+use Prim.Native.Nat.{ℕ, _+_, _≤_}
+use mathlib.Core.Bool.{true, false}
 use native.Mathlib.Omega.{arith}
-use borrow.Author.Tests.{ltb-false, le-ltb}
+use lib.Dec.{ltb}
+use borrow.Author.Tests.{ltb-false, le-ltb, lt-ltb}
 use Rattle.rules.specs.Rules.{Reading, past, futureDate}
+use Rattle.rules.specs.Document01.{before}
 
 module _ (R : Reading) (j : ℕ) where
   -- No past item comes after a future one.
   pub past-first : (t u : ℕ) → t ≤ u → past R j t ≡ false → past R j u ≡ false
   unfolding past
-  past-first t u l p = le-ltb u (R .start j) (omega (arith, ltb-false t (R .start j) p))
+  past-first t u l p = le-ltb (u + R .grace) (R .start j) (omega (arith, ltb-false (t + R .grace) (R .start j) p))
 
   -- A future item is dated E(j) or later, a later one no earlier, and none after both its own date and E(j).
-  pub future-from : (t : ℕ) → past R j t ≡ false → R .start j ≤ futureDate R j t
-  unfolding past futureDate
-  future-from t p = omega (arith, ltb-false t (R .start j) p)
+  pub future-from : (t : ℕ) → R .start j ≤ futureDate R j t
+  unfolding futureDate
+  future-from t = omega arith
 
   pub future-rises : (t u : ℕ) → t ≤ u → futureDate R j t ≤ futureDate R j u
   unfolding futureDate
@@ -26,12 +28,39 @@ module _ (R : Reading) (j : ℕ) where
   unfolding futureDate
   future-to t n l k = omega arith
 
--- Of a reading they ask for E(j) alone.
-module _ (R Q : Reading) (j t : ℕ) (same : R .start j ≡ Q .start j) where
-  pub past-agrees : past R j t ≡ past Q j t
+  -- At the limit: the grace before E(j) an item is future, and a grain earlier it is past.
+  pub future-at-limit : (t : ℕ) → t + R .grace ≡ R .start j → past R j t ≡ false
   unfolding past
-  past-agrees = rw same
+  future-at-limit t e = le-ltb (t + R .grace) (R .start j) (omega arith)
+
+  pub past-before-limit : (t : ℕ) → t + 1 + R .grace ≡ R .start j → past R j t ≡ true
+  unfolding past
+  past-before-limit t e = lt-ltb (t + R .grace) (R .start j) (omega arith)
+
+  -- Before E(j) an item is dated E(j), from there on by its own date.
+  pub future-raised : (t : ℕ) → t ≤ R .start j → futureDate R j t ≡ R .start j
+  unfolding futureDate
+  future-raised t l = omega arith
+
+  pub future-kept : (t : ℕ) → R .start j ≤ t → futureDate R j t ≡ t
+  unfolding futureDate
+  future-kept t l = omega arith
+
+  -- With no grace past is what starts before E(j), so that a future item keeps its date.
+  pub past-01 : (t : ℕ) → R .grace ≡ 0 → past R j t ≡ before R j t
+  unfolding past before
+  past-01 t e = let z : t + R .grace ≡ t = omega arith in ap (λ (u : ℕ). ltb u (R .start j)) z
+
+  pub future-01 : (t : ℕ) → before R j t ≡ false → futureDate R j t ≡ t
+  unfolding before
+  future-01 t p = future-kept t (ltb-false t (R .start j) p)
+
+-- Of a reading they ask for E(j) and the grace alone.
+module _ (R Q : Reading) (j t : ℕ) (same : R .start j ≡ Q .start j) where
+  pub past-agrees : R .grace ≡ Q .grace → past R j t ≡ past Q j t
+  unfolding past
+  past-agrees e = rw (same, e)
 
   pub future-agrees : futureDate R j t ≡ futureDate Q j t
   unfolding futureDate
-  future-agrees = omega arith
+  future-agrees = rw same

@@ -39,6 +39,7 @@ pub record Agree (n : ℕ) (R Q : Reading) : Type 0 where
   pub start : (k : ℕ) → Among n k → R .start k ≡ Q .start k
   pub lastBefore : (t : ℕ) → R .lastBefore t ≡ Q .lastBefore t
   pub became : (k : ℕ) → Among n k → R .became k ≡ Q .became k
+  pub grace : R .grace ≡ Q .grace
   pub fits : (t : ℕ) → Among n (R .lastBefore t)
   pub next : (k j : ℕ) → Among n k → R .became k ≡ missed j → Among n j
 
@@ -53,8 +54,8 @@ module _ (n : ℕ) (R Q : Reading) (a : Agree n R Q) where
   unfolding missedFate globalStart
   missed-agrees local j b s h k p f = refl
   missed-agrees global j b s h k p f = rw (a .start j p) (f (Q .start j + s))
-  missed-agrees partial j b s h k p f = rw (past-agrees R Q j (b + s) (a .start j p), future-agrees R Q j (b + s) (a .start j p), f (futureDate Q j (b + s)))
-  missed-agrees causal j b s h k p f = rw (past-agrees R Q j (b + s) (a .start j p), future-agrees R Q j (b + s) (a .start j p), f (futureDate Q j (b + s)))
+  missed-agrees partial j b s h k p f = rw (past-agrees R Q j (b + s) (a .start j p) (a .grace), future-agrees R Q j (b + s) (a .start j p), f (futureDate Q j (b + s)))
+  missed-agrees causal j b s h k p f = rw (past-agrees R Q j (b + s) (a .start j p) (a .grace), future-agrees R Q j (b + s) (a .start j p), f (futureDate Q j (b + s)))
 
   sliced-agrees : (e : ErrorWord) (k t : ℕ) (v : Taken) → In k → R .became k ≡ v → slicedFate R e k t v ≡ slicedFate Q e k t v
   unfolding slicedFate

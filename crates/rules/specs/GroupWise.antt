@@ -1,5 +1,5 @@
--- Document 01's rules as they stand there, group by group, as equations of whatever yields triples: P i d x are those of the sequence x from (i, d). The rules
--- item by item keep to them, and nothing else does (GroupWiseLaws).
+-- Document 01's rules as they stand there, group by group, as equations of whatever yields triples: P i d x are those of the sequence x from (i, d), and S is how a
+-- missed group is split. Split on the terms of the opening, the rules item by item keep to them, and nothing else does (GroupWiseLaws).
 use mathlib.Core.Path.{_≡_}
 use Prim.Native.Nat.{ℕ, zero, suc, _+_, _-_}
 use mathlib.Core.List.{List, [], _∷_, _++_}
@@ -7,7 +7,7 @@ use Rattle.rules.specs.Words.{Synchrony, loose, tight, ErrorWord, local,
 use Rattle.rules.specs.Score.{Seq, end, action, group}
 use Rattle.rules.specs.Heard.{heard, missed, unsettled}
 use Rattle.rules.specs.Rules.{Reading, Triple, triple}
-use Rattle.rules.specs.Groups.{pastItems, pastGroups, futureItems, slice}
+use Rattle.rules.specs.Groups.{Split, slice}
 
 -- "Each k that receives items gets a loose group with the same error word, at k with delay 0": those of the events 1 to n.
 unfoldable pub sliced : Reading → ((i d : ℕ) → Seq → List Triple) → ErrorWord → (n b : ℕ) → Seq → List Triple
@@ -15,7 +15,7 @@ sliced R P e zero b x = []
 sliced R P e (suc k) b x = sliced R P e k b x ++ P (suc k) 0 (group 0 loose e (slice R (suc k) b x) end)
 
 -- E(i) is R .start i, M(i) the j of `missed j`, and there are n events.
-pub record GroupWise (R : Reading) (n : ℕ) (P : (i d : ℕ) → Seq → List Triple) : Type 0 where
+pub record GroupWise (R : Reading) (S : Split) (n : ℕ) (P : (i d : ℕ) → Seq → List Triple) : Type 0 where
   -- "Delays add up along a sequence; a group's own delay counts for what follows it, its body's delays don't."
   pub no-items : (i s : ℕ) → P i s end ≡ []
   pub action-first : (i s d m p : ℕ) (rest : Seq) → P i s (action d m p rest) ≡ P i 0 (action (s + d) m p end) ++ P i (s + d) rest
@@ -39,8 +39,8 @@ pub record GroupWise (R : Reading) (n : ℕ) (P : (i d : ℕ) → Seq → List T
   -- causal group of the same synchrony at j, their dates less E(j)."
   pub missed-causal : (i j d : ℕ) (y : Synchrony) (x : Seq) → R .became i ≡ missed j →
       P i 0 (group d y causal x end)
-      ≡ P i 0 (pastItems R j (R .start i + d) (R .start i) x) ++ P j 0 (group 0 y causal (futureItems R j (R .start i + d) x) end)
+      ≡ P i 0 (S .items j (R .start i + d) (R .start i) x) ++ P j 0 (group 0 y causal (S .future j (R .start i + d) x) end)
   -- "Missed, partial: as causal, but past actions are dropped and the future ones stay a partial group; past groups run as missed by their own words."
   pub missed-partial : (i j d : ℕ) (y : Synchrony) (x : Seq) → R .became i ≡ missed j →
       P i 0 (group d y partial x end)
-      ≡ P i 0 (pastGroups R j (R .start i + d) (R .start i) x) ++ P j 0 (group 0 y partial (futureItems R j (R .start i + d) x) end)
+      ≡ P i 0 (S .groups j (R .start i + d) (R .start i) x) ++ P j 0 (group 0 y partial (S .future j (R .start i + d) x) end)

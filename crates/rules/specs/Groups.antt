@@ -35,7 +35,7 @@ ownDate t = t
 
 -- ---- of a body that starts at the date b
 
--- "the items starting before E(j) are past": at their dates, counted from c.
+-- "the items starting before E(j) are past", with the grace: at their dates, counted from c.
 unfoldable pub pastItems : Reading → (j b c : ℕ) → Seq → Seq
 pastItems R j b c x = select ownDate (past R j) (past R j) b 0 c x
 
@@ -50,6 +50,16 @@ future R j t = not (past R j t)
 -- "their dates less E(j)"
 unfoldable pub futureItems : Reading → (j b : ℕ) → Seq → Seq
 futureItems R j b x = select (futureDate R j) (future R j) (future R j) b 0 (R .start j) x
+
+-- How a missed group is split at E(j): its past items and its past groups, at their dates, and its future items, by their dates less E(j).
+pub record Split : Type 0 where
+  pub items : (j b c : ℕ) → Seq → Seq
+  pub groups : (j b c : ℕ) → Seq → Seq
+  pub future : (j b : ℕ) → Seq → Seq
+
+-- As the rules split it, on the terms of the opening.
+unfoldable pub splitOf : Reading → Split
+splitOf R = record { items = pastItems R; groups = pastGroups R; future = futureItems R }
 
 -- "An item of the body with ideal date t [..] goes to the last event k with E(k) <= t."
 unfoldable pub goesTo : Reading → (k t : ℕ) → Bool

@@ -8,8 +8,10 @@ pub mod Rules
 pub mod Page
 pub mod Small
 pub mod SmallMore
+pub mod SmallGrace
 pub mod Groups
 pub mod GroupWise
+pub mod Document01
 pub mod Settled
 pub mod Written
 pub mod Parts

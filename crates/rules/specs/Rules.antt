@@ -1,6 +1,6 @@
 -- The rules of performance, one item at a time. What happens to an item depends on the groups around it and on its ideal date, E(i) + d, alone: loose keeps the
 -- event that it hangs on, tight, causal and partial move it and keep the date, and only global changes a date. RuleLaws has document 01's sentences, group by group.
-use Prim.Native.Nat.{ℕ, _+_, _-_}
+use Prim.Native.Nat.{ℕ, _+_, _-_, max}
 use mathlib.Core.Bool.{Bool}
 use mathlib.Core.List.{List, [], _∷_, _++_}
 use lib.Dec.{ltb}
@@ -13,27 +13,27 @@ use Rattle.rules.specs.Words.{Synchrony, loose, tight, ErrorWord, local,
 use Rattle.rules.specs.Score.{Seq, end, action, group, E, lastBy}
 use Rattle.rules.specs.Heard.{Taken, heard, missed, unsettled, taken}
 
--- What the rules ask of a performance: E(k), "the last event k with E(k) <= t", and what has become of each event.
+-- What the rules ask of a performance: E(k), "the last event k with E(k) <= t", what has become of each event, and the grace of the opening.
 pub record Reading : Type 0 where
   pub start : ℕ → ℕ
   pub lastBefore : ℕ → ℕ
   pub became : ℕ → Taken
+  pub grace : ℕ
 
--- The reading of a score's durations under the events heard, on the terms of the opening: those that the rules ask for. They ask for none of them, since part
--- bits and tempo move no triple.
+-- The reading of a score's durations under the events heard, on the terms of the opening. Of these the rules ask for the grace alone: part bits and tempo move no triple.
 unfoldable pub readingOf : Terms → (durations heard : List ℕ) → Reading
-readingOf terms ds D = record { start = E ds; lastBefore = lastBy ds; became = taken D }
+readingOf terms ds D = record { start = E ds; lastBefore = lastBy ds; became = taken D; grace = terms .grace }
 
 abbrev pub grains : ℕ → Grains
 grains t = record { 0 = t }
 
--- "the items starting before E(j) are past, the others future"
+-- "An item is past exactly if its date plus g is before E(j)": the others are future.
 unfoldable pub past : Reading → (j t : ℕ) → Bool
-past R j t = ltb t (R .start j)
+past R j t = ltb (t + R .grace) (R .start j)
 
--- "their dates less E(j)": the date that a future item has where it is heard at j, by its own date. It keeps it.
+-- "their dates less E(j)", "a future item's delay is never below 0": the date that a future item has where it is heard at j is the later of its own and E(j).
 unfoldable pub futureDate : Reading → (j t : ℕ) → ℕ
-futureDate R j t = t
+futureDate R j t = max t (R .start j)
 
 -- "Missed, global: the whole group is heard at j with delay 0": so it starts at E(j), wherever it was to start itself.
 unfoldable pub globalStart : Reading → (j own : ℕ) → ℕ

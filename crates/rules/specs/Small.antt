@@ -14,9 +14,9 @@ use Rattle.rules.specs.Rules.{Triple, triple, triples, keep, perform, to
 abbrev pub events : List ℕ
 events = 10080 ∷ 5040 ∷ 5040 ∷ []
 
--- The terms of the opening: all parts, at 60 beats a minute.
+-- The terms of the opening: all parts, at 60 beats a minute, with no grace.
 abbrev pub terms : Terms
-terms = record { parts = 65535; tempo = 5040 }
+terms = record { parts = 65535; tempo = 5040; grace = 0 }
 
 abbrev pub a : ℕ
 a = 0
