@@ -34,6 +34,7 @@ readingFrom t r =
       start = λ k. startIn (getD r (t .starts + k) 0);
       lastBefore = λ d. halved 8 (λ k. startIn (getD r (t .starts + k) 0)) 1 (t .events) d;
       became = λ k. takenIn k (getD r (t .taken + k) 0);
+      grace = t .grace .0;
     }
 
 reading-from : (t : Places) (m : List ℕ) → readingIn t m ≡ readingFrom t (read t m)

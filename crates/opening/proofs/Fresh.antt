@@ -12,13 +12,13 @@ use Rattle.rules.specs.Terms.{Terms}
 use Rattle.rules.specs.Score.{E}
 use Rattle.fates.specs.Fields.{itemIn, startIn}
 use Rattle.fates.specs.Places.{startAt, itemsIn}
-use Rattle.session.specs.Layout.{memorySize, mostTempo, markAt, eventCountAt, itemCountAt, partsAt, startsAt, pageAt, clockAt, tempoAt, lastAt, totalAt, takenAt, slotsAt, outcomesAt, mark, wordAt, placesOf}
+use Rattle.session.specs.Layout.{memorySize, mostTempo, mostGrace, markAt, eventCountAt, itemCountAt, partsAt, graceAt, startsAt, pageAt, clockAt, tempoAt, lastAt, totalAt, takenAt, slotsAt, outcomesAt, mark, wordAt, placesOf}
 use Rattle.session.specs.Session.{isSession}
 use Rattle.opening.specs.Opening.{newSession}
 use Rattle.opening.proofs.ListLaws.{take-drop-take}
 use Rattle.opening.proofs.StartLaws.{start-small}
 use Rattle.session.proofs.SessionRule.{header-session}
-use Rattle.opening.proofs.NewSession.{new-length, new-mark, new-events, new-items, new-parts, new-clock, new-tempo, new-blank, new-past, new-start, new-page}
+use Rattle.opening.proofs.NewSession.{new-length, new-mark, new-events, new-items, new-parts, new-grace, new-clock, new-tempo, new-blank, new-past, new-start, new-page}
 use Rattle.opening.proofs.Fitting.{Fits}
 
 -- The words m, which were old before, are a new session of the piece p.
@@ -29,6 +29,7 @@ pub record Fresh (p : Piece) (o : Terms) (old m : List ℕ) : Type 0 where
   pub events : wordAt m eventCountAt ≡ length (p .durations)
   pub items : wordAt m itemCountAt ≡ length (p .items)
   pub parts : wordAt m partsAt ≡ o .parts
+  pub grace : wordAt m graceAt ≡ o .grace
   pub clock : wordAt m clockAt ≡ 0
   pub tempo : wordAt m tempoAt ≡ o .tempo
   pub last : wordAt m lastAt ≡ 0
@@ -70,6 +71,7 @@ module _ (p : Piece) (o : Terms) (old : List ℕ) (fits : Fits p) (long : memory
         events = new-events p o old long (fits .events) (fits .items);
         items = new-items p o old long (fits .events) (fits .items);
         parts = new-parts p o old long (fits .events) (fits .items);
+        grace = new-grace p o old long (fits .events) (fits .items);
         clock = new-clock p o old long (fits .events) (fits .items);
         tempo = new-tempo p o old long (fits .events) (fits .items);
         last = blank lastAt (omega arith) (omega arith);
@@ -80,11 +82,12 @@ module _ (p : Piece) (o : Terms) (old : List ℕ) (fits : Fits p) (long : memory
         page = page-read;
       }
 
-pub fresh-session : (p : Piece) (o : Terms) (old m : List ℕ) → Fits p → Fresh p o old m → o .parts < 65536 → 1 ≤ o .tempo → o .tempo ≤ mostTempo → isSession m ≡ true
-fresh-session p o old m fits new sixteen moving slow =
+pub fresh-session : (p : Piece) (o : Terms) (old m : List ℕ) → Fits p → Fresh p o old m → o .parts < 65536 → 1 ≤ o .tempo → o .tempo ≤ mostTempo → o .grace ≤ mostGrace → isSession m ≡ true
+fresh-session p o old m fits new sixteen moving slow graced =
     let events = new .events in
     let items = new .items in
     let bits = new .parts in
+    let grace = new .grace in
     let clock = new .clock in
     let speed = new .tempo in
     let last = new .last in
@@ -95,6 +98,7 @@ fresh-session p o old m fits new sixteen moving slow =
       events = omega (arith, fits .events);
       items = omega (arith, fits .items);
       parts = omega arith;
+      grace = omega arith;
       clock = omega arith;
       moving = omega arith;
       tempo = omega arith;

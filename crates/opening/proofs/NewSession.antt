@@ -9,7 +9,7 @@ use Rattle.score.specs.Piece.{Piece}
 use Rattle.rules.specs.Terms.{Terms}
 use Rattle.rules.specs.Score.{total, E}
 use Rattle.fates.specs.Fields.{itemWord}
-use Rattle.session.specs.Layout.{memorySize, markAt, eventCountAt, itemCountAt, partsAt, startsAt, pageAt, clockAt, tempoAt, lastAt, mark, wordAt}
+use Rattle.session.specs.Layout.{memorySize, markAt, eventCountAt, itemCountAt, partsAt, graceAt, startsAt, pageAt, clockAt, tempoAt, lastAt, mark, wordAt}
 use Rattle.opening.specs.Opening.{withWords, startsOf, cleared, newSession}
 use Rattle.opening.proofs.ClearedLaws.{cleared-at, cleared-past, cleared-length}
 use Rattle.opening.proofs.WrittenLaws.{written-length, written-before, written-after, written-past, written-within, written-run}
@@ -17,7 +17,7 @@ use Rattle.opening.proofs.StartLaws.{starts-length, starts-at}
 
 module _ (p : Piece) (o : Terms) (m : List ℕ) where
   abbrev head : List ℕ
-  head = mark ∷ length (p .durations) ∷ length (p .items) ∷ o .parts ∷ []
+  head = mark ∷ length (p .durations) ∷ length (p .items) ∷ o .parts ∷ o .grace ∷ []
 
   abbrev starts : List ℕ
   starts = startsOf 0 (p .durations)
@@ -69,7 +69,7 @@ module _ (p : Piece) (o : Terms) (m : List ℕ) where
         ∙ written-before (startsAt + 1) starts timed j (omega arith)
         ∙ written-before tempoAt (o .tempo ∷ []) headed j (omega arith)
 
-    of-head : (k : ℕ) → k < 4 → wordAt new k ≡ getD head k 0
+    of-head : (k : ℕ) → k < 5 → wordAt new k ≡ getD head k 0
     of-head k l =
         let here : markAt + k ≡ k = omega arith in
         low k (omega arith) ∙ rw here at (written-within markAt head (cleared m) k (omega arith) (omega (arith, cleared-long)))
@@ -86,6 +86,9 @@ module _ (p : Piece) (o : Terms) (m : List ℕ) where
     pub new-parts : wordAt new partsAt ≡ o .parts
     new-parts = of-head 3 (omega arith)
 
+    pub new-grace : wordAt new graceAt ≡ o .grace
+    new-grace = of-head 4 (omega arith)
+
     -- ---- from the clock on
 
     high : (j : ℕ) → clockAt ≤ j → wordAt new j ≡ wordAt timed j
@@ -94,7 +97,7 @@ module _ (p : Piece) (o : Terms) (m : List ℕ) where
         written-after pageAt page started j (omega (arith, page-small))
         ∙ written-after (startsAt + 1) starts timed j (omega (arith, starts-few))
 
-    bare : (j : ℕ) → 4 ≤ j → j < memorySize → wordAt headed j ≡ 0
+    bare : (j : ℕ) → 5 ≤ j → j < memorySize → wordAt headed j ≡ 0
     bare j l h = written-after markAt head (cleared m) j (omega arith) ∙ cleared-at m j h
 
     -- "The clock starts at 0"

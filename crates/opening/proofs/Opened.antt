@@ -17,7 +17,7 @@ use Rattle.score.specs.Piece.{decode}
 use Rattle.rules.specs.Terms.{Terms}
 use Rattle.session.specs.declared.Refusal.{Refusal}
 use Rattle.session.specs.declared.Refusal.the-variants.{File}
-use Rattle.session.specs.Layout.{memorySize, mostTempo, markAt, mark}
+use Rattle.session.specs.Layout.{memorySize, mostTempo, mostGrace, markAt, mark}
 use Rattle.session.specs.Parts.{soundingBelow}
 use Rattle.session.specs.Session.{isSession}
 use Rattle.session.proofs.SoundingParts.{ones-sounding}
@@ -42,6 +42,10 @@ module _ (m f : List ℕ) (o : Terms) (granted : openingCheck m f o ≡ fine) wh
   unfolding openingCheck
   opened-tempo = first-holds _ _ _ (first-rest _ _ (first-rest _ _ granted))
 
+  pub opened-grace : o .grace ≤ mostGrace
+  unfolding openingCheck
+  opened-grace = leb-true _ _ (first-holds _ _ _ (first-rest _ _ (first-rest _ _ (first-rest _ _ granted))))
+
   pub opened-fits : Fits (decode f)
   opened-fits = accepted-fits f opened-accepted
 
@@ -53,7 +57,7 @@ module _ (m f : List ℕ) (o : Terms) (granted : openingCheck m f o ≡ fine) wh
   -- "Every opened session satisfies it"
   pub opened-session : o .parts < 65536 → isSession (opened m f o .memory) ≡ true
   opened-session sixteen =
-      fresh-session (decode f) o m _ opened-fits opened-fresh sixteen (between-low _ _ _ opened-tempo) (between-high _ _ _ opened-tempo)
+      fresh-session (decode f) o m _ opened-fits opened-fresh sixteen (between-low _ _ _ opened-tempo) (between-high _ _ _ opened-tempo) opened-grace
 
   -- "replies with the number of sounding parts"
   pub opened-sounding : o .parts < 65536 → opened m f o .reply ≡ Opened (soundingBelow (o .parts) 16)

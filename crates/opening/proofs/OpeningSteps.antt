@@ -51,14 +51,14 @@ pub ruleset openings = (opened-refused, opened-granted, file-pass, file-stop, ac
 
 -- ---- the words of a new session, written one table after the other
 
-pub words-begun : (f m m₁ m₂ m₃ m₄ : List ℕ) (events items parts tempo : ℕ) → events ≡ countsOf f .events → items ≡ countsOf f .items
+pub words-begun : (f m m₁ m₂ m₃ m₄ : List ℕ) (events items parts tempo grace : ℕ) → events ≡ countsOf f .events → items ≡ countsOf f .items
     → m₁ ≡ cleared m
-    → m₂ ≡ withWords tempoAt (tempo ∷ []) (withWords markAt (mark ∷ events ∷ items ∷ parts ∷ []) m₁)
+    → m₂ ≡ withWords tempoAt (tempo ∷ []) (withWords markAt (mark ∷ events ∷ items ∷ parts ∷ grace ∷ []) m₁)
     → m₃ ≡ withWords (startsAt + 1) (startsOf 0 (decode f .durations)) m₂
     → m₄ ≡ withWords pageAt (map itemWord (decode f .items)) m₃
-    → m₄ ≡ newSession (decode f) (record { parts = parts; tempo = tempo }) m
+    → m₄ ≡ newSession (decode f) (record { parts = parts; tempo = tempo; grace = grace }) m
 unfolding newSession
-words-begun f m m₁ m₂ m₃ m₄ events items parts tempo n k e₁ e₂ e₃ e₄ =
+words-begun f m m₁ m₂ m₃ m₄ events items parts tempo grace n k e₁ e₂ e₃ e₄ =
     let events-all : events ≡ length (decode f .durations) = n ∙ sym (events-decoded f) in
     let items-all : items ≡ length (decode f .items) = k ∙ sym (items-decoded f) in
     rw (← events-all, ← items-all, e₄, e₃, e₂, e₁)

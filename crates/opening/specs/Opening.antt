@@ -1,4 +1,4 @@
--- The opening: "It checks a score file, opens a session on it with a set of sounding parts and a tempo". "Opening: 1, the file check, 9."
+-- The opening: "It checks a score file, opens a session on it with a set of sounding parts and a tempo", and with a grace. "Opening: 1, the file check, 9", then 19.
 use Prim.Native.Nat.{ℕ, zero, suc, _+_}
 use mathlib.Core.List.{List, [], _∷_, _++_, map}
 use lib.Dec.{leb}
@@ -11,8 +11,8 @@ use Rattle.score.specs.Piece.{Piece, decode}
 use Rattle.rules.specs.Terms.{Terms}
 use Rattle.fates.specs.Fields.{itemWord}
 use Rattle.session.specs.declared.Refusal.{Refusal}
-use Rattle.session.specs.declared.Refusal.the-variants.{MemoryShort, File, BadTempo}
-use Rattle.session.specs.Layout.{memorySize, mostTempo, markAt, startsAt, pageAt, tempoAt, mark}
+use Rattle.session.specs.declared.Refusal.the-variants.{MemoryShort, File, BadTempo, BadGrace}
+use Rattle.session.specs.Layout.{memorySize, mostTempo, mostGrace, markAt, startsAt, pageAt, tempoAt, mark}
 use Rattle.opening.specs.declared.Opening.{Opening}
 use Rattle.opening.specs.declared.Opening.the-variants.{Opened, Refused}
 
@@ -37,13 +37,13 @@ startsOf sum (d ∷ ds) = sum ∷ startsOf (sum + d) ds
 unfoldable pub cleared : List ℕ → List ℕ
 cleared m = zeros memorySize ++ drop memorySize m
 
--- A session at its opening: the score, the part bits and the tempo; nothing heard, nothing sent, the clock at 0.
+-- A session at its opening: the score, the part bits, the grace and the tempo; nothing heard, nothing sent, the clock at 0.
 unfoldable pub newSession : Piece → Terms → List ℕ → List ℕ
 newSession p o m =
     withWords pageAt (map itemWord (p .items))
     (withWords (startsAt + 1) (startsOf 0 (p .durations))
     (withWords tempoAt (o .tempo ∷ [])
-    (withWords markAt (mark ∷ length (p .durations) ∷ length (p .items) ∷ o .parts ∷ []) (cleared m))))
+    (withWords markAt (mark ∷ length (p .durations) ∷ length (p .items) ∷ o .parts ∷ o .grace ∷ []) (cleared m))))
 
 -- ---- the call
 
@@ -53,6 +53,7 @@ openingCheck m f o =
     need (leb memorySize (length m)) MemoryShort
     ∷ renamed File (checked f)
     ∷ need (between 1 mostTempo (o .tempo)) BadTempo
+    ∷ need (leb (o .grace) mostGrace) BadGrace
     ∷ []
     )
 

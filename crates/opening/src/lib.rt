@@ -1,4 +1,4 @@
-// The opening: a session on a score file, with a set of sounding parts and a tempo. No call of document 01 has a `requires`.
+// The opening: a session on a score file, with a set of sounding parts, a tempo and a grace. No call of document 01 has a `requires`.
 ghost use mathlib.Core.Path.{_≡_};
 ghost use mathlib.Core.List.{[], _∷_, map};
 ghost use Prim.Native.Nat.{_+_, _≤_};
@@ -14,10 +14,12 @@ use contents::Verdict;
 use fates::words::item_word;
 use session::Refusal;
 use session::layout::EVENT_COUNT_AT;
+use session::layout::GRACE_AT;
 use session::layout::ITEM_COUNT_AT;
 use session::layout::MARK;
 use session::layout::MARK_AT;
 use session::layout::MEMORY_SIZE;
+use session::layout::MOST_GRACE;
 use session::layout::MOST_TEMPO;
 use session::layout::PAGE_AT;
 use session::layout::PARTS_AT;
@@ -55,14 +57,15 @@ fn clear(mem: &mut [u64])
 }
 
 // The header of a new session: nothing heard, nothing sent, the clock at 0.
-fn put_header(mem: &mut [u64], events: usize, items: usize, parts: u16, tempo: u64)
+fn put_header(mem: &mut [u64], events: usize, items: usize, parts: u16, tempo: u64, grace: u64)
     requires { ⌜ memorySize ≤ length (now mem) ⌝ }
-    ensures { λ _. ⌜ now (mem .exit) ≡ withWords tempoAt (tempo ∷ []) (withWords markAt (mark ∷ events ∷ items ∷ parts ∷ []) (now (mem .entry))) ⌝ }
+    ensures { λ _. ⌜ now (mem .exit) ≡ withWords tempoAt (tempo ∷ []) (withWords markAt (mark ∷ events ∷ items ∷ parts ∷ grace ∷ []) (now (mem .entry))) ⌝ }
 {
     mem[MARK_AT] = MARK;
     mem[EVENT_COUNT_AT] = events as u64;
     mem[ITEM_COUNT_AT] = items as u64;
     mem[PARTS_AT] = parts as u64;
+    mem[GRACE_AT] = grace;
     mem[TEMPO_AT] = tempo;
 }
 
@@ -98,22 +101,22 @@ fn put_page(mem: &mut [u64], file: &[u8], items: usize)
 }
 
 // The words of a new session on an accepted file.
-fn begin(mem: &mut [u64], file: &[u8], parts: u16, tempo: u64)
+fn begin(mem: &mut [u64], file: &[u8], parts: u16, tempo: u64, grace: u64)
     requires { ⌜ (memorySize ≤ length (now mem)) × Accepted (now file) ⌝ }
-    ensures { λ _. ⌜ now (mem .exit) ≡ newSession (decode (now (file .entry))) (record { parts = parts; tempo = tempo }) (now (mem .entry)) ⌝ }
+    ensures { λ _. ⌜ now (mem .exit) ≡ newSession (decode (now (file .entry))) (record { parts = parts; tempo = tempo; grace = grace }) (now (mem .entry)) ⌝ }
 {
     let events = score::event_count(file);
     let items = score::item_count(file);
     clear(mem);
-    put_header(mem, events, items, parts, tempo);
+    put_header(mem, events, items, parts, tempo, grace);
     put_starts(mem, file, events);
     put_page(mem, file, items);
 }
 
-// Opens a session in the lent words: the file, the part bits and the tempo that it begins with.
-pub fn open_session(mem: &mut [u64], file: &[u8], parts: u16, tempo: u64) -> Opening
+// Opens a session in the lent words: the file, the part bits, the tempo that it begins with and the grace, in grains.
+pub fn open_session(mem: &mut [u64], file: &[u8], parts: u16, tempo: u64, grace: u64) -> Opening
     ensures { λ r. ⌜
-        opened (now (mem .entry)) (now (file .entry)) (record { parts = parts; tempo = tempo }) ≡ record { reply = r; memory = now (mem .exit) }
+        opened (now (mem .entry)) (now (file .entry)) (record { parts = parts; tempo = tempo; grace = grace }) ≡ record { reply = r; memory = now (mem .exit) }
         ⌝ }
 {
     if mem.len() < MEMORY_SIZE {
@@ -129,6 +132,9 @@ pub fn open_session(mem: &mut [u64], file: &[u8], parts: u16, tempo: u64) -> Ope
     if MOST_TEMPO < tempo {
         return Opening::Refused(Refusal::BadTempo);
     }
-    begin(mem, file, parts, tempo);
+    if MOST_GRACE < grace {
+        return Opening::Refused(Refusal::BadGrace);
+    }
+    begin(mem, file, parts, tempo, grace);
     Opening::Opened(u16::count_ones(parts))
 }

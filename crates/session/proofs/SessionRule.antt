@@ -16,7 +16,7 @@ module _ (m : List ℕ) where
   pub header-session : Header m → isSession m ≡ true
   unfolding isSession
   header-session h =
-      let s : true ≡ isSession m = search passed depth 12 in sym s
+      let s : true ≡ isSession m = search passed depth 13 in sym s
 
   pub session-header : isSession m ≡ true → Header m
   unfolding isSession
@@ -28,15 +28,17 @@ module _ (m : List ℕ) where
       let e₅ = every-rest _ _ e₄ in
       let e₆ = every-rest _ _ e₅ in
       let e₇ = every-rest _ _ e₆ in
+      let e₈ = every-rest _ _ e₇ in
       record {
         marked = eqb-true _ _ (every-head _ _ e);
         some = between-low 1 256 _ (every-head _ _ e₁);
         events = between-high 1 256 _ (every-head _ _ e₁);
         items = leb-true _ _ (every-head _ _ e₂);
         parts = leb-true _ _ (every-head _ _ e₃);
-        clock = leb-true _ _ (every-head _ _ e₄);
-        moving = between-low 1 mostTempo _ (every-head _ _ e₅);
-        tempo = between-high 1 mostTempo _ (every-head _ _ e₅);
-        last = leb-true _ _ (every-head _ _ e₆);
-        total = leb-true _ _ (every-head _ _ e₇);
+        grace = leb-true _ _ (every-head _ _ e₄);
+        clock = leb-true _ _ (every-head _ _ e₅);
+        moving = between-low 1 mostTempo _ (every-head _ _ e₆);
+        tempo = between-high 1 mostTempo _ (every-head _ _ e₆);
+        last = leb-true _ _ (every-head _ _ e₇);
+        total = leb-true _ _ (every-head _ _ e₈);
       }

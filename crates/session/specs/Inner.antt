@@ -2,7 +2,7 @@
 use mathlib.Core.Path.{_≡_}
 use Prim.Native.Nat.{ℕ, _+_, _*_, _≤_}
 use mathlib.Core.List.{List}
-use Rattle.session.specs.Layout.{mostSent, mostTempo, clockEnd, markAt, eventCountAt, itemCountAt, partsAt, clockAt, tempoAt, lastAt, totalAt, mark, wordAt}
+use Rattle.session.specs.Layout.{mostSent, mostTempo, mostGrace, clockEnd, markAt, eventCountAt, itemCountAt, partsAt, graceAt, clockAt, tempoAt, lastAt, totalAt, mark, wordAt}
 
 -- The rule, test by test.
 pub record Header (m : List ℕ) : Type 0 where
@@ -11,6 +11,7 @@ pub record Header (m : List ℕ) : Type 0 where
   pub events : wordAt m eventCountAt ≤ 256
   pub items : wordAt m itemCountAt ≤ 2048
   pub parts : wordAt m partsAt ≤ 65535
+  pub grace : wordAt m graceAt ≤ mostGrace
   pub clock : wordAt m clockAt ≤ clockEnd
   pub moving : 1 ≤ wordAt m tempoAt
   pub tempo : wordAt m tempoAt ≤ mostTempo

@@ -19,6 +19,10 @@ mostSent = 1024
 abbrev pub mostTempo : ℕ
 mostTempo = 50400
 
+-- "a grace g, 0 to 630 grains"
+abbrev pub mostGrace : ℕ
+mostGrace = 630
+
 abbrev pub mostMillis : ℕ
 mostMillis = 1000
 
@@ -38,6 +42,9 @@ itemCountAt = 2
 
 abbrev pub partsAt : ℕ
 partsAt = 3
+
+abbrev pub graceAt : ℕ
+graceAt = 4
 
 -- E(k) at place k, for events 1 to 256.
 abbrev pub startsAt : ℕ
@@ -80,6 +87,15 @@ mark = 5795973756931895857
 abbrev pub wordAt : List ℕ → ℕ → ℕ
 wordAt m at = getD m at 0
 
--- Where the evaluators find a session's words.
+-- Where the evaluators find a session's words, and the grace.
 abbrev pub placesOf : List ℕ → Places
-placesOf m = record { starts = startsAt; taken = takenAt; items = pageAt; outcomes = outcomesAt; events = wordAt m eventCountAt; size = wordAt m itemCountAt }
+placesOf m =
+    record {
+      starts = startsAt;
+      taken = takenAt;
+      items = pageAt;
+      outcomes = outcomesAt;
+      events = wordAt m eventCountAt;
+      size = wordAt m itemCountAt;
+      grace = record { 0 = wordAt m graceAt };
+    }

@@ -14,6 +14,8 @@ pub const MOST_PARTS: u64 = 65535;
 
 pub const MOST_TEMPO: u64 = 50400;
 
+pub const MOST_GRACE: u64 = 630;
+
 pub const MOST_MILLIS: u64 = 1000;
 
 pub const CLOCK_END: u64 = 1000000000000000;
@@ -25,6 +27,8 @@ pub const EVENT_COUNT_AT: usize = 1;
 pub const ITEM_COUNT_AT: usize = 2;
 
 pub const PARTS_AT: usize = 3;
+
+pub const GRACE_AT: usize = 4;
 
 pub const STARTS_AT: usize = 16;
 

@@ -19,6 +19,8 @@ pub enum Refusal {
     File(Fault),
     // "tempo outside 1 to 50,400"
     BadTempo,
+    // "a grace above 630"
+    BadGrace,
     // "not a session"
     NoSession,
     // "event number 0 or above the last"

@@ -20,6 +20,7 @@ pub fn refusal_row(x: Refusal) -> Reply
         Refusal::RoomShort => row(2),
         Refusal::File(f) => contents::replied(Verdict::Refused(f)),
         Refusal::BadTempo => row(9),
+        Refusal::BadGrace => row(19),
         Refusal::NoSession => row(10),
         Refusal::NoEvent => row(11),
         Refusal::NotAfter => row(12),

@@ -7,11 +7,13 @@ ghost use Rattle.session.specs.Session.{isSession};
 use crate::layout::CLOCK_AT;
 use crate::layout::CLOCK_END;
 use crate::layout::EVENT_COUNT_AT;
+use crate::layout::GRACE_AT;
 use crate::layout::ITEM_COUNT_AT;
 use crate::layout::LAST_AT;
 use crate::layout::MARK;
 use crate::layout::MARK_AT;
 use crate::layout::MOST_EVENTS;
+use crate::layout::MOST_GRACE;
 use crate::layout::MOST_ITEMS;
 use crate::layout::MOST_PARTS;
 use crate::layout::MOST_SENT;
@@ -42,6 +44,9 @@ pub fn is_session(mem: &[u64]) -> bool
         return false;
     }
     if MOST_PARTS < mem[PARTS_AT] {
+        return false;
+    }
+    if MOST_GRACE < mem[GRACE_AT] {
         return false;
     }
     if CLOCK_END < clock {

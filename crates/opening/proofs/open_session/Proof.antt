@@ -26,8 +26,12 @@ returns-5 : tie.Need-returns-5
 unfolding openingCheck
 returns-5 c = search openings
 
+returns-6 : tie.Need-returns-6
+unfolding openingCheck
+returns-6 c = search openings depth 7
+
 pub open-session-spec : {M : Type 1} → statement M
 open-session-spec =
     tie.close
-    (tie.spec returns (λ c κs. search needs) (λ c. search needs) returns-2 (λ c. search needs) returns-3 returns-4 (λ c κs. search openings) (λ c. search needs)
-    returns-5)
+    (tie.spec returns (λ c κs. search needs) (λ c. search needs) returns-2 (λ c. search needs) returns-3 returns-4 returns-5 (λ c κs. search openings) (λ c. search needs)
+    returns-6)

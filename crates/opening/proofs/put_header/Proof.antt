@@ -1,4 +1,4 @@
--- The five stores are the two runs of words, by definition.
+-- The six stores are the two runs of words, by definition.
 -- Assumes nothing.
 use mathlib.Core.Path.{refl}
 use native.Mathlib.Omega.{arith}
@@ -16,4 +16,4 @@ pub put-header-spec : {M : Type 1} → statement M
 put-header-spec =
     tie.close
     (tie.spec (λ c. search needs) (λ c. simp length-set (omega arith)) (λ c. simp length-set (omega arith)) (λ c. simp length-set (omega arith))
-    (λ c. simp length-set (omega arith)) (λ c. simp length-set (omega arith)) returns)
+    (λ c. simp length-set (omega arith)) (λ c. simp length-set (omega arith)) (λ c. simp length-set (omega arith)) returns)

@@ -49,10 +49,14 @@ returns-9 : tie.Need-returns-9
 unfolding refusalRow
 returns-9 c = search case-of
 
+returns-10 : tie.Need-returns-10
+unfolding refusalRow
+returns-10 c = search case-of
+
 pub refusal-row-spec : {M : Type 1} → statement M
 refusal-row-spec =
     tie.close
     (tie.spec (λ c. search needs) (λ c κs. search needs) (λ c. search needs) (λ c κs. search needs) (λ c. search needs) (λ c κs. search needs)
     (λ c. search needs) (λ c κs. search needs) (λ c. search needs) (λ c κs. search needs) (λ c. search needs) (λ c κs. search needs) (λ c. search needs)
-    (λ c κs. search needs) (λ c. search needs) (λ c κs. search needs) (λ c. search needs) (λ c κs. search needs) returns returns-2 returns-3 returns-4 returns-5
-    returns-6 returns-7 returns-8 returns-9)
+    (λ c κs. search needs) (λ c. search needs) (λ c κs. search needs) (λ c. search needs) (λ c κs. search needs) (λ c. search needs) (λ c κs. search needs) returns returns-2 returns-3 returns-4 returns-5
+    returns-6 returns-7 returns-8 returns-9 returns-10)
