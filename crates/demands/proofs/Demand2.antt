@@ -57,7 +57,7 @@ module _ (f : List ℕ) (accepted : Accepted f) (o : Terms) where
 
 module _ (f m : List ℕ) (o : Terms) (can : Openable f m o) (cs : List Call) where
   start-holds : Holds f o 0 (start o) (opened m f o .memory)
-  start-holds = opened-holds f m o (can .accepted) (can .long) (can .sixteen) (can .speed)
+  start-holds = opened-holds f m o (can .accepted) (can .long) (can .sixteen) (can .speed) (can .graced)
 
   pub demand-2-answers : answersIn f (opened m f o .memory) cs ≡ answersOf f o cs
   unfolding answersOf
@@ -68,7 +68,7 @@ module _ (f m : List ℕ) (o : Terms) (can : Openable f m o) (cs : List Call) wh
   pub demand-2 : runIn f m o cs ≡ runOf f o cs
   unfolding runIn runOf openingReply
   demand-2 =
-      rw (opened-sounding m f o (granted f m o (can .accepted) (can .long) (can .sixteen) (can .speed)) (can .sixteen), demand-2-answers)
+      rw (opened-sounding m f o (granted f m o (can .accepted) (can .long) (can .sixteen) (can .speed) (can .graced)) (can .sixteen), demand-2-answers)
 
   -- "Every opened session satisfies it after every call": number 10's rule.
   pub demand-2-session : isSession (memoryAfterAll (opened m f o .memory) cs) ≡ true

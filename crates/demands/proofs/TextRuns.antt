@@ -34,7 +34,7 @@ use Rattle.demands.proofs.Demand3.{demand-3-c, demand-3-a-memory, deman
 
 module _ (room : ℕ) (text : List ℕ) (n : ℕ) (granted : readAnswer room text ≡ Made n) where
   pub read-openable : (m : List ℕ) (o : Terms) → Opens m o → Openable (fileOf (said text)) m o
-  read-openable m o c = record { accepted = granted-accepted room text n granted; long = c .long; sixteen = c .sixteen; speed = c .speed }
+  read-openable m o c = record { accepted = granted-accepted room text n granted; long = c .long; sixteen = c .sixteen; speed = c .speed; graced = c .graced }
 
   -- Demand 2: the answers over session memory are those of the history,
   pub read-demand-2 : (m : List ℕ) (o : Terms) → Opens m o → (cs : List Call) → runIn (fileOf (said text)) m o cs ≡ runOf (fileOf (said text)) o cs

@@ -86,7 +86,7 @@ sumOf (n ∷ l) = n + sumOf l
 
 -- The same terms with other part bits.
 abbrev pub withParts : ℕ → Terms → Terms
-withParts bits o = record { parts = bits; tempo = o .tempo }
+withParts bits o = record { parts = bits; tempo = o .tempo; grace = o .grace }
 
 -- "sixteen part bits": all of them.
 abbrev pub everyPart : ℕ

@@ -9,7 +9,7 @@ use Rattle.contents.specs.Replies.{replyOf, verdictOf}
 use Rattle.score.specs.File.{Accepted}
 use Rattle.score.specs.LookUp.{labelReply, labelBytes}
 use Rattle.rules.specs.Terms.{Terms}
-use Rattle.session.specs.Layout.{memorySize, mostTempo}
+use Rattle.session.specs.Layout.{memorySize, mostTempo, mostGrace}
 use Rattle.opening.specs.Replies.{openingReply}
 use Rattle.opening.specs.Opening.{opened}
 use Rattle.sequencer.specs.Replies.{sendingReply, reportReply}
@@ -17,12 +17,13 @@ use Rattle.sequencer.specs.Calls.{heardNote, passingTime, reported}
 use Rattle.demands.specs.History.{Call, note, pass, report, lookUp}
 use Rattle.demands.specs.Answers.{Answer, opening, sending, reporting, looking}
 
--- What an opening is handed that is granted: an accepted file, 8,192 words or more, sixteen part bits and a lawful tempo.
+-- What an opening is handed that is granted: an accepted file, 8,192 words or more, sixteen part bits, a lawful tempo and a grace of 0 to 630.
 pub record Openable (file memory : List ℕ) (o : Terms) : Type 0 where
   pub accepted : Accepted file
   pub long : memorySize ≤ length memory
   pub sixteen : o .parts < 65536
   pub speed : between 1 mostTempo (o .tempo) ≡ true
+  pub graced : o .grace ≤ mostGrace
 
 -- The answer of a call on this memory, and the memory after it.
 unfoldable pub answerIn : (file memory : List ℕ) → Call → Answer

@@ -6,7 +6,7 @@ use mathlib.Core.List.{List}
 use lib.ListN.{length, take, drop}
 use Rattle.base.specs.Tests.{between}
 use Rattle.rules.specs.Terms.{Terms}
-use Rattle.session.specs.Layout.{memorySize, mostTempo}
+use Rattle.session.specs.Layout.{memorySize, mostTempo, mostGrace}
 
 -- So many bytes at the front of the room are what was made; those past it, and their number, are as they were.
 pub record Stands (made room new : List ℕ) (n : ℕ) : Type 0 where
@@ -20,3 +20,4 @@ pub record Opens (memory : List ℕ) (o : Terms) : Type 0 where
   pub long : memorySize ≤ length memory
   pub sixteen : o .parts < 65536
   pub speed : between 1 mostTempo (o .tempo) ≡ true
+  pub graced : o .grace ≤ mostGrace

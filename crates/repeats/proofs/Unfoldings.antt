@@ -32,7 +32,7 @@ use Rattle.unfolding.proofs.FileLaws.{unfolded-says}
 
 module _ (room : ℕ) (f : List ℕ) (n : ℕ) (made : unfoldAnswer room f ≡ Made n) where
   pub unfold-openable : (m : List ℕ) (o : Terms) → Opens m o → Openable (unfoldedFile f) m o
-  unfold-openable m o c = record { accepted = granted room f n made .accepted; long = c .long; sixteen = c .sixteen; speed = c .speed }
+  unfold-openable m o c = record { accepted = granted room f n made .accepted; long = c .long; sixteen = c .sixteen; speed = c .speed; graced = c .graced }
 
   -- Demand 2: the answers over session memory are those of the history,
   pub unfold-demand-2 : (m : List ℕ) (o : Terms) → Opens m o → (cs : List Call) → runIn (unfoldedFile f) m o cs ≡ runOf (unfoldedFile f) o cs

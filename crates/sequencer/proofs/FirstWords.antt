@@ -18,7 +18,7 @@ use Rattle.fates.specs.Places.{readingIn, itemsIn}
 use Rattle.evaluators.specs.Performed.{writeAll, performed}
 use Rattle.evaluators.proofs.FrameLaws.{reading-alike, items-alike}
 use Rattle.session.specs.declared.Refusal.{Refusal}
-use Rattle.session.specs.Layout.{memorySize, mostSent, markAt, eventCountAt, itemCountAt, partsAt, pageAt, clockAt, tempoAt, lastAt, totalAt, takenAt, slotsAt, outcomesAt, wordAt, placesOf}
+use Rattle.session.specs.Layout.{memorySize, mostSent, markAt, eventCountAt, itemCountAt, partsAt, graceAt, pageAt, clockAt, tempoAt, lastAt, totalAt, takenAt, slotsAt, outcomesAt, wordAt, placesOf}
 use Rattle.session.specs.Session.{isSession}
 use Rattle.sending.specs.Sending.{slotBy, isOpen, settled, isDue, messageAt, dueFrom, firedFrom, sentAt, firedAt}
 use Rattle.sending.proofs.DueLaws.{due-cons, due-over, fired-cons, fired-over}
@@ -100,6 +100,7 @@ noted-first h m few =
       ← took-first h (h - wordAt m lastAt) (wordAt m lastAt + 1) m,
       word-first m₁ eventCountAt (omega arith),
       word-first m₁ itemCountAt (omega arith),
+      word-first m₁ graceAt (omega arith),
     )
 
 -- ---- what is sent
@@ -181,6 +182,7 @@ session-first m =
       word-first m eventCountAt (omega arith),
       word-first m itemCountAt (omega arith),
       word-first m partsAt (omega arith),
+      word-first m graceAt (omega arith),
       word-first m clockAt (omega arith),
       word-first m tempoAt (omega arith),
       word-first m lastAt (omega arith),

@@ -6,7 +6,7 @@ use Prim.Native.Nat.{ℕ, _+_, _*_, _≤_}
 use native.Mathlib.Omega.{arith}
 use lib.ListN.{length, set, length-set}
 use lib.Seq.{getD-set-same, getD-set-other}
-use Rattle.session.specs.Layout.{memorySize, mostSent, mostTempo, clockEnd, markAt, eventCountAt, itemCountAt, partsAt, clockAt, tempoAt, lastAt, totalAt, takenAt, wordAt}
+use Rattle.session.specs.Layout.{memorySize, mostSent, mostTempo, clockEnd, markAt, eventCountAt, itemCountAt, partsAt, graceAt, clockAt, tempoAt, lastAt, totalAt, takenAt, wordAt}
 use Rattle.session.specs.Inner.{Header}
 use Rattle.sequencer.specs.Calls.{headed}
 use Rattle.session.proofs.Kept.{Kept, kept-none, kept-set, kept-word}
@@ -57,6 +57,7 @@ module _ (clock tempo last total : ℕ) (m : List ℕ) (long : memorySize ≤ le
         events = rw (kept-word k eventCountAt (omega arith)) (h .events);
         items = rw (kept-word k itemCountAt (omega arith)) (h .items);
         parts = rw (kept-word k partsAt (omega arith)) (h .parts);
+        grace = rw (kept-word k graceAt (omega arith)) (h .grace);
         clock = rw headed-clock c;
         moving = rw headed-tempo s;
         tempo = rw headed-tempo f;

@@ -9,7 +9,7 @@ use Rattle.fates.specs.declared.Places.{Places}
 use Rattle.fates.specs.Places.{PlacesFit}
 use Rattle.evaluators.specs.Performed.{performed}
 use Rattle.evaluators.proofs.PlaceLaws.{performed-length, performed-before, performed-past}
-use Rattle.session.specs.Layout.{memorySize, clockEnd, markAt, eventCountAt, itemCountAt, partsAt, clockAt, tempoAt, lastAt, totalAt, takenAt, slotsAt, wordAt, placesOf}
+use Rattle.session.specs.Layout.{memorySize, clockEnd, markAt, eventCountAt, itemCountAt, partsAt, graceAt, clockAt, tempoAt, lastAt, totalAt, takenAt, slotsAt, wordAt, placesOf}
 use Rattle.session.specs.Inner.{Header}
 use Rattle.sending.specs.Sending.{settled}
 use Rattle.sequencer.specs.Calls.{tookNote, noted}
@@ -52,6 +52,7 @@ header-kept h k =
       events = rw (kept-word k eventCountAt (omega arith)) (h .events);
       items = rw (kept-word k itemCountAt (omega arith)) (h .items);
       parts = rw (kept-word k partsAt (omega arith)) (h .parts);
+      grace = rw (kept-word k graceAt (omega arith)) (h .grace);
       clock = rw (kept-word k clockAt (omega arith)) (h .clock);
       moving = rw (kept-word k tempoAt (omega arith)) (h .moving);
       tempo = rw (kept-word k tempoAt (omega arith)) (h .tempo);
@@ -71,7 +72,7 @@ module _ (m : List ℕ) (h : ℕ) (long : memorySize ≤ length m) (hd : Header 
       let g = k .long in
       let hd₁ = header-kept hd k in
       rw b
-      (record { starts = omega arith; taken = omega arith; items = omega arith; outcomes = omega arith; some = hd₁ .some; few = hd₁ .events; page = hd₁ .items })
+      (record { starts = omega arith; taken = omega arith; items = omega arith; outcomes = omega arith; some = hd₁ .some; few = hd₁ .events; page = hd₁ .items; grace = hd₁ .grace })
 
   decided : (m₁ m₂ : List ℕ) (t : Places) → m₁ ≡ tookNote h (h - wordAt m lastAt) (wordAt m lastAt + 1) m → t ≡ placesOf m₁ → m₂ ≡ performed t m₁
       → Kept takenAt memorySize m m₂

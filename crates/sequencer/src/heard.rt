@@ -12,6 +12,7 @@ use session::Refusal;
 use session::is_session;
 use session::layout::CLOCK_AT;
 use session::layout::EVENT_COUNT_AT;
+use session::layout::GRACE_AT;
 use session::layout::ITEM_COUNT_AT;
 use session::layout::LAST_AT;
 use session::layout::MEMORY_SIZE;
@@ -21,6 +22,7 @@ use session::layout::PAGE_AT;
 use session::layout::ROOM_SIZE;
 use session::layout::STARTS_AT;
 use session::layout::TAKEN_AT;
+use units::Grains;
 use units::Thousandths;
 
 // The events after the last one heard, up to this one, are settled by it.
@@ -38,7 +40,7 @@ fn take_note(mem: &mut [u64], event: usize)
     }
 }
 
-// Where the evaluators find a session's words.
+// Where the evaluators find a session's words, and the grace.
 fn places(mem: &[u64]) -> Places
     requires { ⌜ memorySize ≤ length (now mem) ⌝ }
     ensures { λ r. ⌜ r ≡ placesOf (now (mem .entry)) ⌝ }
@@ -50,6 +52,7 @@ fn places(mem: &[u64]) -> Places
         outcomes: OUTCOMES_AT,
         events: mem[EVENT_COUNT_AT] as usize,
         size: mem[ITEM_COUNT_AT] as usize,
+        grace: Grains(mem[GRACE_AT]),
     }
 }
 

@@ -13,7 +13,7 @@ use Rattle.rules.specs.Score.{E}
 use Rattle.fates.specs.Fields.{itemIn, startIn, takenIn}
 use Rattle.fates.specs.Places.{startAt, itemsIn}
 use Rattle.rules.specs.Terms.{Terms}
-use Rattle.session.specs.Layout.{memorySize, eventCountAt, itemCountAt, partsAt, startsAt, pageAt, clockAt, tempoAt, lastAt, totalAt, takenAt, outcomesAt, wordAt, placesOf}
+use Rattle.session.specs.Layout.{memorySize, mostGrace, eventCountAt, itemCountAt, partsAt, graceAt, startsAt, pageAt, clockAt, tempoAt, lastAt, totalAt, takenAt, outcomesAt, wordAt, placesOf}
 use Rattle.session.specs.Session.{isSession}
 use Rattle.session.specs.Parts.{sounds}
 use Rattle.opening.proofs.ListLaws.{take-drop-take}
@@ -30,6 +30,8 @@ pub record Score (ds : List ℕ) (is : List Item) (o : Terms) (m : List ℕ) : T
   pub events : wordAt m eventCountAt ≡ length ds
   pub items : wordAt m itemCountAt ≡ length is
   pub parts : wordAt m partsAt ≡ o .parts
+  pub grace : wordAt m graceAt ≡ o .grace
+  pub graced : o .grace ≤ mostGrace
   pub starts : (k : ℕ) → 1 ≤ k → k ≤ length ds → startAt (placesOf m) m k ≡ E ds k
   pub page : itemsIn (placesOf m) m ≡ is
 
@@ -72,6 +74,8 @@ module _ {ds : List ℕ} {is : List Item} (o : Terms) (some : length ds ≤ 256)
         events = kept-word k eventCountAt (omega arith) ∙ s .events;
         items = size;
         parts = kept-word k partsAt (omega arith) ∙ s .parts;
+        grace = kept-word k graceAt (omega arith) ∙ s .grace;
+        graced = s .graced;
         starts = λ i p q. start-word m′ i (omega arith) ∙ (ap startIn (kept-word k (startsAt + i) (omega arith)) ∙ (sym (start-word m i (omega arith)) ∙ s .starts i p q));
         page =
             page-words m′ (length is) size few

@@ -60,6 +60,7 @@ module _ {ds : List ℕ} {is : List Item} (fair : Fair ds is) (o : Terms) (h las
       let e = score₁ .events in
       let i = score₁ .items in
       let l = score₁ .long in
+      let g = score₁ .grace in
       record {
         starts = omega arith;
         taken = omega arith;
@@ -68,6 +69,7 @@ module _ {ds : List ℕ} {is : List Item} (fair : Fair ds is) (o : Terms) (h las
         some = omega (arith, fair .some);
         few = omega (arith, fair .events);
         page = omega (arith, fair .items);
+        grace = omega (arith, score₁ .graced);
       }
 
   performed-words : Kept outcomesAt memorySize m₁ m₂

@@ -21,7 +21,7 @@ use Rattle.rules.specs.Written.{written, actionsIn}
 use Rattle.rules.proofs.Sound.{each-action-once}
 use Rattle.fates.specs.Fields.{itemIn, takenIn}
 use Rattle.fates.specs.Places.{itemsIn}
-use Rattle.session.specs.Layout.{memorySize, mostTempo, pageAt, slotsAt, outcomesAt, wordAt}
+use Rattle.session.specs.Layout.{memorySize, mostTempo, mostGrace, pageAt, slotsAt, outcomesAt, wordAt}
 use Rattle.session.specs.Parts.{sounds}
 use Rattle.sending.specs.Sending.{messageWord}
 use Rattle.opening.specs.Opening.{openingCheck, opened}
@@ -79,10 +79,11 @@ module _ (S : ℕ → Bool) (m : List ℕ) (s : Now) where
 
 -- ---- the opening
 
-module _ (f m : List ℕ) (o : Terms) (accepted : Accepted f) (long : memorySize ≤ length m) (sixteen : o .parts < 65536) (speed : between 1 mostTempo (o .tempo) ≡ true) where
+module _ (f m : List ℕ) (o : Terms) (accepted : Accepted f) (long : memorySize ≤ length m) (sixteen : o .parts < 65536) (speed : between 1 mostTempo (o .tempo) ≡ true)
+    (graced : o .grace ≤ mostGrace) where
   pub granted : openingCheck m f o ≡ fine
   unfolding openingCheck firstFault need renamed
-  granted = rw (le-leb memorySize (length m) long, accepted .fine, speed)
+  granted = rw (le-leb memorySize (length m) long, accepted .fine, speed, le-leb (o .grace) mostGrace graced)
 
   abbrev new : List ℕ
   new = opened m f o .memory
@@ -120,7 +121,7 @@ module _ (f m : List ℕ) (o : Terms) (accepted : Accepted f) (long : memorySize
   unfolding start heardEvents
   opened-holds =
       record {
-        score = record { long = rw (fresh .long) long; events = fresh .events; items = fresh .items; parts = fresh .parts; starts = fresh .starts; page = fresh .page };
+        score = record { long = rw (fresh .long) long; events = fresh .events; items = fresh .items; parts = fresh .parts; grace = fresh .grace; graced = graced; starts = fresh .starts; page = fresh .page };
         terms = refl;
         session = opened-session m f o granted sixteen;
         clock = fresh .clock;

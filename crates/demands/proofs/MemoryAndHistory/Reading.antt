@@ -48,7 +48,7 @@ module _ {ds : List ℕ} {is : List Item} {o : Terms} {last : ℕ} {D m : List �
 
   agrees : Agree (length ds) (readingIn (placesOf m) m) (readingOf o ds D)
   unfolding readingIn readingOf
-  agrees = record { start = λ k p. score .starts k (p .0) (p .1); lastBefore = last-agrees; became = became-agrees; fits = last-among; next = next-among }
+  agrees = record { start = λ k p. score .starts k (p .0) (p .1); lastBefore = last-agrees; became = became-agrees; grace = score .grace; fits = last-among; next = next-among }
 
   pub session-cues : Within (length ds) (entries is) → cues (readingIn (placesOf m) m) (entries (itemsIn (placesOf m) m)) ≡ cues (readingOf o ds D) (entries is)
   session-cues w = rw (score .page) (cues-agree (length ds) (readingIn (placesOf m) m) (readingOf o ds D) agrees w)
