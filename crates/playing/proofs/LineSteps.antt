@@ -52,7 +52,7 @@ open-turn first opened Bad a b e = e
 
 -- ---- the line in the code's terms
 
-module _ (f m room l out : List ℕ) (n : ℕ) (o : Bool) (c : Command) (told : c ≡ inTurn (eqb n 1) o (commandOf l)) where
+module _ (f m room l out : List ℕ) (g n : ℕ) (o : Bool) (c : Command) (told : c ≡ inTurn (eqb n 1) o (commandOf l)) where
   pub open-few : (a b : ℕ) → c ≡ Open a b → a ≤ mostParts
   open-few a b e = command-parts a b l (open-turn (eqb n 1) o (commandOf l) a b (sym told ∙ e))
 
@@ -63,23 +63,23 @@ module _ (f m room l out : List ℕ) (n : ℕ) (o : Bool) (c : Command) (told : 
   pass-accepted a e asked = asked .accepted (pass-turn (eqb n 1) o (commandOf l) a (sym told ∙ e))
 
   module _ (m′ room′ new : List ℕ) (o′ : Bool) (count : ℕ) where
-    pub open-carried : (a b : ℕ) → c ≡ Open a b → Carries (carriedOpening room (opened m f (record { parts = a; tempo = b }))) out m′ room′ new o′ count
-        → Carries (carried f n (record { memory = m; room = room; opened = o }) l) out m′ room′ new o′ count
+    pub open-carried : (a b : ℕ) → c ≡ Open a b → Carries (carriedOpening room (opened m f (record { parts = a; tempo = b; grace = g }))) out m′ room′ new o′ count
+        → Carries (carried f g n (record { memory = m; room = room; opened = o }) l) out m′ room′ new o′ count
     unfolding carried carriedBy
     open-carried a b e p = rw (← told, e) p
 
     pub hear-carried : (a b : ℕ) → c ≡ Hear a b → Carries (carriedSending f true (heardNote m room a b)) out m′ room′ new o′ count
-        → Carries (carried f n (record { memory = m; room = room; opened = o }) l) out m′ room′ new o′ count
+        → Carries (carried f g n (record { memory = m; room = room; opened = o }) l) out m′ room′ new o′ count
     unfolding carried carriedBy
     hear-carried a b e p = rw (← told, e, hear-turn (eqb n 1) o (commandOf l) a b (sym told ∙ e)) p
 
     pub pass-carried : (a : ℕ) → c ≡ Pass a → Carries (carriedSending f true (passingTime m room a)) out m′ room′ new o′ count
-        → Carries (carried f n (record { memory = m; room = room; opened = o }) l) out m′ room′ new o′ count
+        → Carries (carried f g n (record { memory = m; room = room; opened = o }) l) out m′ room′ new o′ count
     unfolding carried carriedBy
     pass-carried a e p = rw (← told, e, pass-turn (eqb n 1) o (commandOf l) a (sym told ∙ e)) p
 
   pub bad-carried : (new : List ℕ) (o′ : Bool) (count : ℕ) → c ≡ Bad → Laid out 0 (badLine n) new count → o′ ≡ o
-      → Carries (carried f n (record { memory = m; room = room; opened = o }) l) out m room new o′ count
+      → Carries (carried f g n (record { memory = m; room = room; opened = o }) l) out m room new o′ count
   unfolding carried carriedBy
   bad-carried new o′ count e laid s = rw (← told, e) (record { memory = refl; room = refl; opened = s; output = laid })
 

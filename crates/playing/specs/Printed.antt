@@ -60,16 +60,16 @@ unfoldable pub carriedSending : (file : List ℕ) → Bool → SendingResult →
 carriedSending f o r =
     record { stand = record { memory = r .memory; room = r .room; opened = o }; output = sendingLines f (r .memory) (r .room) (r .reply) }
 
--- "`bad L` for line L that it can't read or that comes out of turn"
-unfoldable pub carriedBy : (file : List ℕ) → (line : ℕ) → Stand → Command → Carried
-carriedBy f n s (Open parts tempo) = carriedOpening (s .room) (opened (s .memory) f (record { parts = parts; tempo = tempo }))
-carriedBy f n s (Hear event tempo) = carriedSending f (s .opened) (heardNote (s .memory) (s .room) event tempo)
-carriedBy f n s (Pass ms) = carriedSending f (s .opened) (passingTime (s .memory) (s .room) ms)
-carriedBy f n s Bad = record { stand = s; output = badLine n }
+-- "`bad L` for line L that it can't read or that comes out of turn". The run's opening is given its grace.
+unfoldable pub carriedBy : (file : List ℕ) → (grace line : ℕ) → Stand → Command → Carried
+carriedBy f g n s (Open parts tempo) = carriedOpening (s .room) (opened (s .memory) f (record { parts = parts; tempo = tempo; grace = g }))
+carriedBy f g n s (Hear event tempo) = carriedSending f (s .opened) (heardNote (s .memory) (s .room) event tempo)
+carriedBy f g n s (Pass ms) = carriedSending f (s .opened) (passingTime (s .memory) (s .room) ms)
+carriedBy f g n s Bad = record { stand = s; output = badLine n }
 
 -- Line n of the input. An opening is "first, once".
-unfoldable pub carried : (file : List ℕ) → (line : ℕ) → Stand → List ℕ → Carried
-carried f n s l = carriedBy f n s (inTurn (eqb n 1) (s .opened) (commandOf l))
+unfoldable pub carried : (file : List ℕ) → (grace line : ℕ) → Stand → List ℕ → Carried
+carried f g n s l = carriedBy f g n s (inTurn (eqb n 1) (s .opened) (commandOf l))
 
 -- ---- the whole input
 
@@ -78,14 +78,14 @@ unfoldable pub ending : (memory : List ℕ) → List ℕ
 ending m = endLine (figuresOf m .clock) (figuresOf m .total)
 
 -- These lines, of which the first is line n, and the end.
-unfoldable pub printedFrom : (file : List ℕ) → (line : ℕ) → Stand → List (List ℕ) → List ℕ
-printedFrom f n s [] = ending (s .memory)
-printedFrom f n s (l ∷ ls) = carried f n s l .output ++ printedFrom f (n + 1) (carried f n s l .stand) ls
+unfoldable pub printedFrom : (file : List ℕ) → (grace line : ℕ) → Stand → List (List ℕ) → List ℕ
+printedFrom f g n s [] = ending (s .memory)
+printedFrom f g n s (l ∷ ls) = carried f g n s l .output ++ printedFrom f g (n + 1) (carried f g n s l .stand) ls
 
 -- Memory and room of zeros, which is no session.
 unfoldable pub outset : Stand
 outset = record { memory = zeros memorySize; room = zeros roomSize; opened = false }
 
--- What `play` prints.
-unfoldable pub printed : (file input : List ℕ) → List ℕ
-printed f input = printedFrom f 1 outset (linesOf input)
+-- What is printed, where the opening is given this grace. "`play` opens with grace 0."
+unfoldable pub printed : (file : List ℕ) → (grace : ℕ) → (input : List ℕ) → List ℕ
+printed f g input = printedFrom f g 1 outset (linesOf input)

@@ -37,9 +37,10 @@ fn bad_line(number: u64, opened: bool, out: &mut [u8]) -> Line
     Line { count, opened }
 }
 
-// Carries out line `number` of the input: what it prints are the first bytes of `out`, and the others stay.
+// Carries out line `number` of the input: what it prints are the first bytes of `out`, and the others stay. An opening is given the grace.
 pub fn play_line(
     file: &[u8],
+    grace: u64,
     mem: &mut [u64],
     room: &mut [u64],
     line: &[u8],
@@ -50,14 +51,14 @@ pub fn play_line(
     requires { ⌜ Asked (now file) opened (now out) ⌝ }
     ensures { λ r. ⌜
         Carries
-        (carried (now (file .entry)) number (record { memory = now (mem .entry); room = now (room .entry); opened = opened }) (now (line .entry)))
+        (carried (now (file .entry)) grace number (record { memory = now (mem .entry); room = now (room .entry); opened = opened }) (now (line .entry)))
         (now (out .entry)) (now (mem .exit)) (now (room .exit)) (now (out .exit)) (r .opened) (r .count)
         × (r .opened ≡ true → Accepted (now (file .entry)))
         ⌝ }
 {
     let c = lines::command_in_turn(line, number == 1, opened);
     match c {
-        Command::Open(parts, tempo) => open_line(file, mem, room, parts, tempo, out),
+        Command::Open(parts, tempo) => open_line(file, mem, room, parts, tempo, grace, out),
         Command::Hear(event, tempo) => hear_line(file, mem, room, event, tempo, out),
         Command::Pass(ms) => pass_line(file, mem, room, ms, out),
         Command::Bad => bad_line(number, opened, out),

@@ -21,17 +21,19 @@ pub fn open_line(
     room: &[u64],
     parts: u64,
     tempo: u64,
+    grace: u64,
     out: &mut [u8],
 ) -> Line
     requires { ⌜ (parts ≤ mostParts) × (lineRoom ≤ length (now out)) ⌝ }
     ensures { λ r. ⌜
         Carries
-        (carriedOpening (now (room .entry)) (opened (now (mem .entry)) (now (file .entry)) (record { parts = parts; tempo = tempo })))
+        (carriedOpening (now (room .entry)) (opened (now (mem .entry)) (now (file .entry)) (record { parts = parts; tempo = tempo; grace = grace })))
         (now (out .entry)) (now (mem .exit)) (now (room .entry)) (now (out .exit)) (r .opened) (r .count)
         × (r .opened ≡ true → Accepted (now (file .entry)))
         ⌝ }
 {
-    let r = opening::opening_reply(opening::open_session(mem, file, (parts % 65536) as u16, tempo));
+    let bits = (parts % 65536) as u16;
+    let r = opening::opening_reply(opening::open_session(mem, file, bits, tempo, grace));
     let count = lines::open_line(out, r.number as u64, r.parts as u64);
     Line {
         count,
@@ -39,12 +41,17 @@ pub fn open_line(
     }
 }
 
-// Why an opening of this file was refused, in memory that is long enough: for its first fault, else for the tempo.
-pub fn why_refused(file: &[u8]) -> Refusal
-    ensures { λ r. ⌜ r ≡ whyRefused (now (file .entry)) ⌝ }
+// Why an opening of this file was refused, in memory that is long enough: for its first fault, else for the grace, where that number was given, else for the tempo.
+pub fn why_refused(file: &[u8], nineteen: bool) -> Refusal
+    ensures { λ r. ⌜ r ≡ whyRefused (now (file .entry)) nineteen ⌝ }
 {
     match score::check_file(file) {
         Verdict::Refused(x) => Refusal::File(x),
-        Verdict::Fine => Refusal::BadTempo,
+        Verdict::Fine => {
+            if nineteen {
+                return Refusal::BadGrace;
+            }
+            Refusal::BadTempo
+        }
     }
 }

@@ -8,7 +8,7 @@ use Rattle.ascii.specs.Words.{begins}
 use Rattle.contents.specs.declared.Fault.{Fault}
 use Rattle.contents.specs.declared.Fault.the-variants.{FileShort, BadCount, BadOffset, BadLength, BadEvent, BadItem, BadMessage, TextLeft, NoMessage}
 use Rattle.session.specs.declared.Refusal.{Refusal}
-use Rattle.session.specs.declared.Refusal.the-variants.{MemoryShort, RoomShort, File, BadTempo, NoSession, NoEvent, NotAfter, BadMillis, ClockFull}
+use Rattle.session.specs.declared.Refusal.the-variants.{MemoryShort, RoomShort, File, BadTempo, BadGrace, NoSession, NoEvent, NotAfter, BadMillis, ClockFull}
 use Rattle.text.specs.declared.Transcript.{Transcript}
 use Rattle.text.specs.declared.Transcript.the-variants.{Made, NoRoom, BadText, BadFile}
 use Rattle.unfolding.specs.declared.Unfolding.the-variants as unfolds
@@ -34,6 +34,7 @@ refusalRowAt MemoryShort = 1
 refusalRowAt RoomShort = 2
 refusalRowAt (File x) = faultRowAt x
 refusalRowAt BadTempo = 12
+refusalRowAt BadGrace = 23
 refusalRowAt NoSession = 13
 refusalRowAt NoEvent = 14
 refusalRowAt NotAfter = 15
@@ -81,6 +82,7 @@ refusal-found MemoryShort = refl
 refusal-found RoomShort = refl
 refusal-found (File x) = fault-found x
 refusal-found BadTempo = refl
+refusal-found BadGrace = refl
 refusal-found NoSession = refl
 refusal-found NoEvent = refl
 refusal-found NotAfter = refl

@@ -10,7 +10,7 @@ use Rattle.contents.specs.declared.Fault.{Fault}
 use Rattle.contents.specs.declared.Fault.the-variants.{FileShort, BadCount, BadOffset, BadLength, BadEvent, BadItem, BadMessage, TextLeft, NoMessage}
 use Rattle.session.specs.Replies.{refusalRow}
 use Rattle.session.specs.declared.Refusal.{Refusal}
-use Rattle.session.specs.declared.Refusal.the-variants.{MemoryShort, RoomShort, File, BadTempo, NoSession, NoEvent, NotAfter, BadMillis, ClockFull}
+use Rattle.session.specs.declared.Refusal.the-variants.{MemoryShort, RoomShort, File, BadTempo, BadGrace, NoSession, NoEvent, NotAfter, BadMillis, ClockFull}
 use Rattle.text.specs.declared.Transcript.{Transcript}
 use Rattle.text.specs.declared.Transcript.the-variants.{Made, NoRoom, BadText, BadFile}
 use Rattle.text.specs.Replies.{transcriptRow}
@@ -79,6 +79,7 @@ refusal-listed MemoryShort = record { within = omega arith; number = refl; words
 refusal-listed RoomShort = record { within = omega arith; number = refl; words = refl }
 refusal-listed (File x) = fault-listed x
 refusal-listed BadTempo = record { within = omega arith; number = refl; words = refl }
+refusal-listed BadGrace = record { within = omega arith; number = refl; words = refl }
 refusal-listed NoSession = record { within = omega arith; number = refl; words = refl }
 refusal-listed NoEvent = record { within = omega arith; number = refl; words = refl }
 refusal-listed NotAfter = record { within = omega arith; number = refl; words = refl }
@@ -106,6 +107,6 @@ unfolding replyRows
 rows-counted = refl
 
 -- 2, 5, 8 and 17 have two rows each
-pub every-number : doneNumber ∷ map rowNumber replyRows ≡ 0 ∷ 1 ∷ 2 ∷ 2 ∷ 3 ∷ 4 ∷ 5 ∷ 5 ∷ 6 ∷ 7 ∷ 8 ∷ 8 ∷ 9 ∷ 10 ∷ 11 ∷ 12 ∷ 13 ∷ 14 ∷ 15 ∷ 16 ∷ 17 ∷ 17 ∷ 18 ∷ []
+pub every-number : doneNumber ∷ map rowNumber replyRows ≡ 0 ∷ 1 ∷ 2 ∷ 2 ∷ 3 ∷ 4 ∷ 5 ∷ 5 ∷ 6 ∷ 7 ∷ 8 ∷ 8 ∷ 9 ∷ 10 ∷ 11 ∷ 12 ∷ 13 ∷ 14 ∷ 15 ∷ 16 ∷ 17 ∷ 17 ∷ 18 ∷ 19 ∷ []
 unfolding replyRows rowNumber refusalRow transcriptRow unfoldRow faultRow
 every-number = refl

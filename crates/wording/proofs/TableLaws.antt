@@ -12,7 +12,7 @@ use Rattle.ascii.specs.Laying.{Laid}
 use Rattle.contents.specs.declared.Fault.{Fault}
 use Rattle.contents.specs.declared.Fault.the-variants.{FileShort, BadCount, BadOffset, BadLength, BadEvent, BadItem, BadMessage, TextLeft, NoMessage}
 use Rattle.session.specs.declared.Refusal.{Refusal}
-use Rattle.session.specs.declared.Refusal.the-variants.{MemoryShort, RoomShort, File, BadTempo, NoSession, NoEvent, NotAfter, BadMillis, ClockFull}
+use Rattle.session.specs.declared.Refusal.the-variants.{MemoryShort, RoomShort, File, BadTempo, BadGrace, NoSession, NoEvent, NotAfter, BadMillis, ClockFull}
 use Rattle.text.specs.declared.Transcript.{Transcript}
 use Rattle.text.specs.declared.Transcript.the-variants.{Made, NoRoom, BadText, BadFile}
 use Rattle.unfolding.specs.declared.Unfolding.{Unfolding}
@@ -39,6 +39,7 @@ words-told MemoryShort = (omega arith, omega arith)
 words-told RoomShort = (omega arith, omega arith)
 words-told (File x) = fault-most x
 words-told BadTempo = (omega arith, omega arith)
+words-told BadGrace = (omega arith, omega arith)
 words-told NoSession = (omega arith, omega arith)
 words-told NoEvent = (omega arith, omega arith)
 words-told NotAfter = (omega arith, omega arith)

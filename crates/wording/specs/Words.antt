@@ -7,7 +7,7 @@ use Rattle.ascii.specs.Decimals.{decimal}
 use Rattle.contents.specs.declared.Fault.{Fault}
 use Rattle.contents.specs.declared.Fault.the-variants.{FileShort, BadCount, BadOffset, BadLength, BadEvent, BadItem, BadMessage, TextLeft, NoMessage}
 use Rattle.session.specs.declared.Refusal.{Refusal}
-use Rattle.session.specs.declared.Refusal.the-variants.{MemoryShort, RoomShort, File, BadTempo, NoSession, NoEvent, NotAfter, BadMillis, ClockFull}
+use Rattle.session.specs.declared.Refusal.the-variants.{MemoryShort, RoomShort, File, BadTempo, BadGrace, NoSession, NoEvent, NotAfter, BadMillis, ClockFull}
 use Rattle.session.specs.Replies.{refusalRow}
 use Rattle.text.specs.declared.Transcript.{Transcript}
 use Rattle.text.specs.declared.Transcript.the-variants.{Made, NoRoom, BadText, BadFile}
@@ -36,6 +36,7 @@ refusalWords MemoryShort = bytesOf "session memory under 8,192 words (u64)"
 refusalWords RoomShort = bytesOf "send room under 2,048 words (u64)"
 refusalWords (File x) = faultWords x
 refusalWords BadTempo = bytesOf "tempo outside 1 to 50,400"
+refusalWords BadGrace = bytesOf "grace above 630"
 refusalWords NoSession = bytesOf "not a session"
 refusalWords NoEvent = bytesOf "event number 0 or above the last"
 refusalWords NotAfter = bytesOf "event not after the last one heard"
@@ -90,6 +91,7 @@ placed MemoryShort = false
 placed RoomShort = false
 placed (File x) = faultPlaced x
 placed BadTempo = false
+placed BadGrace = false
 placed NoSession = false
 placed NoEvent = false
 placed NotAfter = false
@@ -132,11 +134,12 @@ replyRows =
     ∷ Unfold (unfolds.BadExtended 0)
     ∷ Unfold (unfolds.BadExtended 40)
     ∷ Unfold unfolds.OverLimit
+    ∷ Call BadGrace
     ∷ []
 
 -- How many they are, and the first of them.
 abbrev pub rowCount : ℕ
-rowCount = 22
+rowCount = 23
 
 abbrev pub firstRow : Row
 firstRow = Call MemoryShort

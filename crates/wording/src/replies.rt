@@ -21,7 +21,7 @@ use text::replied_text;
 use unfolding::Unfolding;
 use unfolding::replied_unfolding;
 
-const ROWS: usize = 22;
+const ROWS: usize = 23;
 
 // The i-th row; behind the last, the first stands for it.
 fn row_at(i: usize) -> Row
@@ -50,6 +50,7 @@ fn row_at(i: usize) -> Row
         19 => Row::Unfold(Unfolding::BadExtended { place: 0 }),
         20 => Row::Unfold(Unfolding::BadExtended { place: 40 }),
         21 => Row::Unfold(Unfolding::OverLimit),
+        22 => Row::Call(Refusal::BadGrace),
         _ => Row::Call(Refusal::MemoryShort),
     }
 }

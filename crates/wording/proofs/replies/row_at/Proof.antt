@@ -7,7 +7,7 @@ use Rattle.wording.proofs.RowLaws.{row-case, row-beyond}
 use Rattle.wording.proofs.replies.row_at.Statement.{statement}
 use Rattle.wording.proofs.replies.row_at.Tie as tie
 
-beyond : tie.Need-returns-23
+beyond : tie.Need-returns-24
 beyond c = row-beyond _ (none-of rowCount _ (c .match .rest))
 
 pub row-at-spec : {M : Type 1} → statement M
@@ -37,4 +37,5 @@ row-at-spec =
     (λ c. row-case _ 19 _ (c .match .keys20) refl)
     (λ c. row-case _ 20 _ (c .match .keys21) refl)
     (λ c. row-case _ 21 _ (c .match .keys22) refl)
+    (λ c. row-case _ 22 _ (c .match .keys23) refl)
     beyond)

@@ -28,4 +28,6 @@ placed-spec =
     (λ c. search rows)
     (λ c. search rows)
     (λ c. search rows)
+    (λ c. search rows)
+    (λ c. search rows)
     (λ c. search rows))
