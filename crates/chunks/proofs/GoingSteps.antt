@@ -73,8 +73,8 @@ module _ (f chunk line line′ m room : List ℕ) (at : ℕ) (p : Progress) (fed
     went-space = held-space (g .space)
 
     pub went-ended : (m′ room′ out′ : List ℕ) (o′ : Bool) (count : ℕ) → fed .ended ≡ true
-        → Carries (carried f (p .lines + 1) (record { memory = m; room = room; opened = p .opened }) (take (fed .have) line′)) out m′ room′ out′ o′ count → (o′ ≡ true → Accepted f)
-        → WentOn f chunk at m room line p out m′ room′ line′ out′ (record { next = fed .next; count = count; progress = record { lines = p .lines + 1; have = 0; opened = o′ } })
+        → Carries (carried f (p .grace) (p .lines + 1) (record { memory = m; room = room; opened = p .opened }) (take (fed .have) line′)) out m′ room′ out′ o′ count → (o′ ≡ true → Accepted f)
+        → WentOn f chunk at m room line p out m′ room′ line′ out′ (record { next = fed .next; count = count; progress = record { lines = p .lines + 1; have = 0; grace = p .grace; opened = o′ } })
     unfolding lineOn lineRead pick
     went-ended m′ room′ out′ o′ count e c a =
         let q = rw (told .kept) at c in
@@ -91,7 +91,7 @@ module _ (f chunk line line′ m room : List ℕ) (at : ℕ) (p : Progress) (fed
         }
 
     pub went-unended : fed .ended ≡ false
-        → WentOn f chunk at m room line p out m room line′ out (record { next = fed .next; count = 0; progress = record { lines = p .lines; have = fed .have; opened = p .opened } })
+        → WentOn f chunk at m room line p out m room line′ out (record { next = fed .next; count = 0; progress = record { lines = p .lines; have = fed .have; grace = p .grace; opened = p .opened } })
     unfolding lineOn pick
     went-unended e =
         record {
@@ -122,7 +122,7 @@ unfolding lastRead
 some-last f r l = go (r .kept) refl l where
   go : (k : List ℕ) → r .kept ≡ k → 1 ≤ length k → lastRead f r ≡ lineRead f r
   go [] e q = absurd (omega arith)
-  go (b ∷ bs) e q = rw (e, lastRead) (ap (λ (k : List ℕ). lineRead f (record { stand = r .stand; lines = r .lines; kept = k })) e)
+  go (b ∷ bs) e q = rw (e, lastRead) (ap (λ (k : List ℕ). lineRead f (record { stand = r .stand; lines = r .lines; kept = k; grace = r .grace })) e)
 
 laid-as : (out out′ xs ys : List ℕ) (n : ℕ) → xs ≡ ys → Laid out 0 ys out′ n → Laid out 0 xs out′ n
 laid-as out out′ xs ys n e laid = rw e laid
@@ -135,7 +135,7 @@ module _ (f m room line out : List ℕ) (p : Progress) where
       rw e (record { memory = refl; room = refl; output = record { front = refl; others = refl; stop = refl; within = omega arith; size = refl } })
 
   pub last-some : (m′ room′ out′ : List ℕ) (o′ : Bool) (count : ℕ) → 1 ≤ p .have → p .have ≤ length line
-      → Carries (carried f (p .lines + 1) (record { memory = m; room = room; opened = p .opened }) (take (p .have) line)) out m′ room′ out′ o′ count
+      → Carries (carried f (p .grace) (p .lines + 1) (record { memory = m; room = room; opened = p .opened }) (take (p .have) line)) out m′ room′ out′ o′ count
       → Ended f (readingOf m room line p) out m′ room′ out′ count
   unfolding lineRead
   last-some m′ room′ out′ o′ count l q c =

@@ -30,6 +30,9 @@ module _ (m m′ room room′ l l′ : List ℕ) (p q : Progress) (e : readingOf
   pub same-opened : p .opened ≡ q .opened
   same-opened = ap (λ (r : Reading). r .stand .opened) e
 
+  pub same-grace : p .grace ≡ q .grace
+  same-grace = ap (λ (r : Reading). r .grace) e
+
   pub same-have : p .have ≤ length l → q .have ≤ length l′ → p .have ≡ q .have
   same-have a b = sym (length-take-le (p .have) l a) ∙ ap (λ (r : Reading). length (r .kept)) e ∙ length-take-le (q .have) l′ b
 

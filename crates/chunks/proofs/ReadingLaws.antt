@@ -75,10 +75,10 @@ kept-line-more k b bs e =
 kept-least : (l : List ℕ) → length (take keptBytes l) ≤ keptBytes
 kept-least l = omega (arith, length-take keptBytes l)
 
-module _ (f : List ℕ) (s : Stand) (n : ℕ) where
+module _ (f : List ℕ) (s : Stand) (n g : ℕ) where
   -- Reading with these bytes kept of the next line.
   abbrev keeping : List ℕ → Reading
-  keeping k = record { stand = s; lines = n; kept = k }
+  keeping k = record { stand = s; lines = n; kept = k; grace = g }
 
   -- The rest of a chunk that has no newline.
   abbrev Unended : (k rest : List ℕ) → Type 0
@@ -118,22 +118,22 @@ module _ (f : List ℕ) (s : Stand) (n : ℕ) where
 
   module _ (k rest : List ℕ) (short : length k ≤ keptBytes) where
     pub read-unended : lineLength rest ≡ length rest
-        → bytesRead f (record { stand = s; lines = n; kept = k }) rest ≡ record { reading = record { stand = s; lines = n; kept = keptLine k rest }; output = [] }
+        → bytesRead f (keeping k) rest ≡ record { reading = keeping (keptLine k rest); output = [] }
     read-unended e = unended k rest short e
 
     pub read-ended : lineLength rest < length rest
-        → bytesRead f (record { stand = s; lines = n; kept = k }) rest ≡ readAfter f (lineRead f (record { stand = s; lines = n; kept = keptLine k rest })) (drop (lineLength rest + 1) rest)
+        → bytesRead f (keeping k) rest ≡ readAfter f (lineRead f (keeping (keptLine k rest))) (drop (lineLength rest + 1) rest)
     read-ended e = rw add-one (ended k rest short e)
 
     pub read-ended-reading : lineLength rest < length rest
-        → bytesRead f (record { stand = s; lines = n; kept = k }) rest .reading
-        ≡ bytesRead f (lineRead f (record { stand = s; lines = n; kept = keptLine k rest }) .reading) (drop (lineLength rest + 1) rest) .reading
+        → bytesRead f (keeping k) rest .reading
+        ≡ bytesRead f (lineRead f (keeping (keptLine k rest)) .reading) (drop (lineLength rest + 1) rest) .reading
     read-ended-reading e = ap (λ (x : ReadOn). x .reading) (read-ended e)
 
     pub read-ended-output : lineLength rest < length rest
-        → bytesRead f (record { stand = s; lines = n; kept = k }) rest .output
-        ≡ lineRead f (record { stand = s; lines = n; kept = keptLine k rest }) .output
-        ++ bytesRead f (lineRead f (record { stand = s; lines = n; kept = keptLine k rest }) .reading) (drop (lineLength rest + 1) rest) .output
+        → bytesRead f (keeping k) rest .output
+        ≡ lineRead f (keeping (keptLine k rest)) .output
+        ++ bytesRead f (lineRead f (keeping (keptLine k rest)) .reading) (drop (lineLength rest + 1) rest) .output
     read-ended-output e = ap (λ (x : ReadOn). x .output) (read-ended e)
 
 -- ---- from one line of a chunk to the next
@@ -163,9 +163,9 @@ module _ (f chunk : List ℕ) (at : ℕ) (r : Reading) (short : length (r .kept)
     go true e =
         let l : lineLength (drop at chunk) < length (drop at chunk) = ltb-true _ _ e in
         let d = further chunk at (at + lineLength (drop at chunk) + 1) (lineLength (drop at chunk) + 1) (omega arith) in
-        rw (e, d) (read-ended f (r .stand) (r .lines) (r .kept) (drop at chunk) short l)
+        rw (e, d) (read-ended f (r .stand) (r .lines) (r .grace) (r .kept) (drop at chunk) short l)
     go false e =
         let l : length (drop at chunk) ≤ lineLength (drop at chunk) = ltb-false _ _ e in
         let u : lineLength (drop at chunk) ≡ length (drop at chunk) = omega (arith, line-within (drop at chunk)) in
         let d : drop (at + lineLength (drop at chunk)) chunk ≡ [] = further chunk at _ _ refl ∙ drop-of-length-le (drop at chunk) l in
-        rw (e, d) (read-unended f (r .stand) (r .lines) (r .kept) (drop at chunk) short u)
+        rw (e, d) (read-unended f (r .stand) (r .lines) (r .grace) (r .kept) (drop at chunk) short u)

@@ -15,7 +15,7 @@ use Rattle.chunks.specs.Reading.{Reading, lineOn, lastRead}
 -- Where reading stands: memory and room, the kept bytes of a line, and how far the input is read.
 abbrev pub readingOf : (memory room line : List ℕ) → Progress → Reading
 readingOf m room line p =
-    record { stand = record { memory = m; room = room; opened = p .opened }; lines = p .lines; kept = take (p .have) line }
+    record { stand = record { memory = m; room = room; opened = p .opened }; lines = p .lines; kept = take (p .have) line; grace = p .grace }
 
 -- A place in the chunk, room for what is kept of a line, line numbers for as many lines as bytes are left, and what carrying out a line asks.
 pub record Going (file chunk : List ℕ) (at : ℕ) (line : List ℕ) (p : Progress) (out : List ℕ) : Type 0 where

@@ -8,11 +8,12 @@ use Rattle.ascii.specs.Words.{newline}
 use Rattle.lines.specs.Input.{keptBytes, lineLength, keptLine}
 use Rattle.playing.specs.Printed.{Stand, carried, ending, outset}
 
--- Where reading stands: how many lines have ended, and what is kept of the next.
+-- Where reading stands: how many lines have ended, what is kept of the next, and the grace that an opening is given.
 pub record Reading : Type 0 where
   pub stand : Stand
   pub lines : ℕ
   pub kept : List ℕ
+  pub grace : ℕ
 
 -- Bytes read: where reading stands after them, and what was printed at them.
 pub record ReadOn : Type 0 where
@@ -22,11 +23,12 @@ pub record ReadOn : Type 0 where
 -- One line more has ended, with these bytes kept of it.
 unfoldable pub lineRead : (file : List ℕ) → Reading → ReadOn
 lineRead f r =
-    let c = carried f (r .lines + 1) (r .stand) (r .kept) in
-    record { reading = record { stand = c .stand; lines = r .lines + 1; kept = [] }; output = c .output }
+    let c = carried f (r .grace) (r .lines + 1) (r .stand) (r .kept) in
+    record { reading = record { stand = c .stand; lines = r .lines + 1; kept = []; grace = r .grace }; output = c .output }
 
 unfoldable pub byteKept : Reading → ℕ → ReadOn
-byteKept r b = record { reading = record { stand = r .stand; lines = r .lines; kept = take keptBytes (r .kept ++ (b ∷ [])) }; output = [] }
+byteKept r b =
+    record { reading = record { stand = r .stand; lines = r .lines; kept = take keptBytes (r .kept ++ (b ∷ [])); grace = r .grace }; output = [] }
 
 unfoldable pub bytesRead : (file : List ℕ) → Reading → List ℕ → ReadOn
 bytesRead f r [] = record { reading = r; output = [] }
@@ -38,7 +40,7 @@ bytesRead f r (b ∷ bs) =
 -- The rest of a chunk, up to its first line's end or to its own.
 unfoldable pub lineOn : (file : List ℕ) → Reading → List ℕ → ReadOn
 lineOn f r rest =
-    let k : Reading = record { stand = r .stand; lines = r .lines; kept = keptLine (r .kept) rest } in
+    let k : Reading = record { stand = r .stand; lines = r .lines; kept = keptLine (r .kept) rest; grace = r .grace } in
     pick (ltb (lineLength rest) (length rest)) (lineRead f k) (record { reading = k; output = [] })
 
 -- "nothing after the last newline is no line"
@@ -50,8 +52,8 @@ unfoldable pub endRead : (file : List ℕ) → Reading → List ℕ
 endRead f r = lastRead f r .output ++ ending (lastRead f r .reading .stand .memory)
 
 -- Before the first byte.
-unfoldable pub nothingRead : Reading
-nothingRead = record { stand = outset; lines = 0; kept = [] }
+unfoldable pub nothingRead : (grace : ℕ) → Reading
+nothingRead g = record { stand = outset; lines = 0; kept = []; grace = g }
 
 -- Chunks one after the other.
 unfoldable pub chunksRead : (file : List ℕ) → Reading → List (List ℕ) → ReadOn

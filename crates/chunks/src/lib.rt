@@ -5,10 +5,11 @@ ghost use Rattle.playing.specs.Inner.{Asked};
 ghost use Rattle.chunks.specs.Inner.{readingOf, Going, WentOn, Ended};
 use playing::play_line;
 
-// How far the input is read: how many lines have ended, how many bytes of the next are kept, and whether a session is open.
+// How far the input is read: how many lines have ended, how many bytes of the next are kept, the grace that an opening is given, and whether a session is open.
 pub struct Progress {
     pub lines: u64,
     pub have: usize,
+    pub grace: u64,
     pub opened: bool,
 }
 
@@ -40,6 +41,7 @@ pub fn go_on(
     if fed.ended {
         let l = play_line(
             file,
+            p.grace,
             mem,
             room,
             &line[..fed.have],
@@ -53,6 +55,7 @@ pub fn go_on(
             progress: Progress {
                 lines: p.lines + 1,
                 have: 0,
+                grace: p.grace,
                 opened: l.opened,
             },
         };
@@ -63,6 +66,7 @@ pub fn go_on(
         progress: Progress {
             lines: p.lines,
             have: fed.have,
+            grace: p.grace,
             opened: p.opened,
         },
     }
@@ -86,6 +90,7 @@ pub fn last_line(
     if p.have < 1 {
         return 0;
     }
-    let l = play_line(file, mem, room, &line[..p.have], p.lines + 1, p.opened, out);
+    let n = p.have;
+    let l = play_line(file, p.grace, mem, room, &line[..n], p.lines + 1, p.opened, out);
     l.count
 }

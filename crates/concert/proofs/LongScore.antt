@@ -41,36 +41,36 @@ module _ (f g : List ℕ) (alike : (m : List ℕ) (o : Terms) → openingCheck m
   opening-alike o fine e ls = absurd (never (zeros memorySize) o e)
   opening-alike o (refused x) e ls = refl
 
-  first-alike-told : (c : Command) (l : List ℕ) (ls : List (List ℕ)) → firstTold g c l ls ≡ firstTold f c l ls
+  first-alike-told : (grace : ℕ) (c : Command) (l : List ℕ) (ls : List (List ℕ)) → firstTold g grace c l ls ≡ firstTold f grace c l ls
   unfolding firstTold
-  first-alike-told (Open parts tempo) l ls =
-      let o : Terms = record { parts = parts; tempo = tempo } in
+  first-alike-told grace (Open parts tempo) l ls =
+      let o : Terms = record { parts = parts; tempo = tempo; grace = grace } in
       rw (alike (zeros memorySize) o) (opening-alike o _ refl ls)
-  first-alike-told (Hear event tempo) l ls = refl
-  first-alike-told (Pass ms) l ls = refl
-  first-alike-told Bad l ls = refl
+  first-alike-told grace (Hear event tempo) l ls = refl
+  first-alike-told grace (Pass ms) l ls = refl
+  first-alike-told grace Bad l ls = refl
 
-  lines-alike : (ls : List (List ℕ)) → linesTold g ls ≡ linesTold f ls
+  lines-alike : (grace : ℕ) (ls : List (List ℕ)) → linesTold g grace ls ≡ linesTold f grace ls
   unfolding linesTold
-  lines-alike [] = refl
-  lines-alike (l ∷ ls) = first-alike-told (commandOf l) l ls
+  lines-alike grace [] = refl
+  lines-alike grace (l ∷ ls) = first-alike-told grace (commandOf l) l ls
 
 -- ---- what is printed
 
-pub long-file : (f input : List ℕ) (n : ℕ) → longestScore < n → n ≤ length f → printed (take n f) input ≡ printed f input
+pub long-file : (f : List ℕ) (grace : ℕ) (input : List ℕ) (n : ℕ) → longestScore < n → n ≤ length f → printed (take n f) grace input ≡ printed f grace input
 unfolding told
-long-file f input n p q =
-    printed-told (take n f) input
-    ∙ (lines-alike f (take n f) (check-cut f n p q) (never-granted f (omega arith)) (linesOf input) ∙ sym (printed-told f input))
+long-file f grace input n p q =
+    printed-told (take n f) grace input
+    ∙ (lines-alike f (take n f) (check-cut f n p q) (never-granted f (omega arith)) grace (linesOf input) ∙ sym (printed-told f grace input))
 
-pub long-score : (f input : List ℕ) → fileRoom ≤ length f → printed (take fileRoom f) input ≡ printed f input
-long-score f input p = long-file f input fileRoom (omega arith) p
+pub long-score : (f : List ℕ) (grace : ℕ) (input : List ℕ) → fileRoom ≤ length f → printed (take fileRoom f) grace input ≡ printed f grace input
+long-score f grace input p = long-file f grace input fileRoom (omega arith) p
 
 -- The same of any file: a shorter one is read whole.
-pub score-read : (f input : List ℕ) → printed (take fileRoom f) input ≡ printed f input
-score-read f input = go (leb fileRoom (length f)) refl where
-  go : (t : Bool) → leb fileRoom (length f) ≡ t → printed (take fileRoom f) input ≡ printed f input
-  go true e = long-score f input (leb-true fileRoom (length f) e)
+pub score-read : (f : List ℕ) (grace : ℕ) (input : List ℕ) → printed (take fileRoom f) grace input ≡ printed f grace input
+score-read f grace input = go (leb fileRoom (length f)) refl where
+  go : (t : Bool) → leb fileRoom (length f) ≡ t → printed (take fileRoom f) grace input ≡ printed f grace input
+  go true e = long-score f grace input (leb-true fileRoom (length f) e)
   go false e =
       let p : length f < fileRoom = leb-false fileRoom (length f) e in
-      ap (λ (l : List ℕ). printed l input) (take-all fileRoom f (omega arith))
+      ap (λ (l : List ℕ). printed l grace input) (take-all fileRoom f (omega arith))

@@ -15,12 +15,12 @@ use Rattle.score.specs.Piece.{decode}
 use Rattle.rules.specs.Terms.{Terms}
 use Rattle.rules.specs.Page.{Entry}
 use Rattle.session.specs.declared.Refusal.{Refusal}
-use Rattle.session.specs.Layout.{memorySize, roomSize, mostTempo}
+use Rattle.session.specs.Layout.{memorySize, roomSize, mostTempo, mostGrace}
 use Rattle.session.specs.Parts.{sounds, soundingBelow}
 use Rattle.opening.specs.Opening.{zeros, openingCheck, opened}
 use Rattle.opening.specs.Replies.{openingReply}
 use Rattle.opening.proofs.ClearedLaws.{zeros-length}
-use Rattle.opening.proofs.Opened.{opened-accepted, opened-tempo, opened-sounding}
+use Rattle.opening.proofs.Opened.{opened-accepted, opened-tempo, opened-grace, opened-sounding}
 use Rattle.sequencer.specs.declared.Figures.{Figures}
 use Rattle.sequencer.specs.Replies.{sendingReply, reportReply}
 use Rattle.sequencer.specs.Calls.{SendingResult, heardNote, passingTime}
@@ -82,20 +82,20 @@ zeros-wide = omega (arith, zeros-length roomSize)
 abbrev standing : (m room : List ℕ) → Stand
 standing m room = record { memory = m; room = room; opened = true }
 
-module _ (f : List ℕ) (n : ℕ) (m room l : List ℕ) where
-  heard-line : (h tempo : ℕ) → commandOf l ≡ Hear h tempo → carried f n (standing m room) l ≡ carriedSending f true (heardNote m room h tempo)
+module _ (f : List ℕ) (g n : ℕ) (m room l : List ℕ) where
+  heard-line : (h tempo : ℕ) → commandOf l ≡ Hear h tempo → carried f g n (standing m room) l ≡ carriedSending f true (heardNote m room h tempo)
   unfolding carried carriedBy inTurn pick
   heard-line h tempo e = rw e
 
-  passed-line : (ms : ℕ) → commandOf l ≡ Pass ms → carried f n (standing m room) l ≡ carriedSending f true (passingTime m room ms)
+  passed-line : (ms : ℕ) → commandOf l ≡ Pass ms → carried f g n (standing m room) l ≡ carriedSending f true (passingTime m room ms)
   unfolding carried carriedBy inTurn pick
   passed-line ms e = rw e
 
-  bad-line : commandOf l ≡ Bad → carried f n (standing m room) l ≡ record { stand = standing m room; output = badLine n }
+  bad-line : commandOf l ≡ Bad → carried f g n (standing m room) l ≡ record { stand = standing m room; output = badLine n }
   unfolding carried carriedBy inTurn
   bad-line e = rw e
 
-  late-line : (parts tempo : ℕ) → 2 ≤ n → commandOf l ≡ Open parts tempo → carried f n (standing m room) l ≡ record { stand = standing m room; output = badLine n }
+  late-line : (parts tempo : ℕ) → 2 ≤ n → commandOf l ≡ Open parts tempo → carried f g n (standing m room) l ≡ record { stand = standing m room; output = badLine n }
   unfolding carried carriedBy inTurn pick
   late-line parts tempo two e = let other : eqb n 1 ≡ false = ne-eqb n 1 (λ z. omega arith) in rw (e, other)
 
@@ -147,8 +147,8 @@ module _ (f : List ℕ) (accepted : Accepted f) (o : Terms) where
     still-wide wide =
         room-stays room (r .room) (sendingReply (r .reply)) (verdict (length ds) s c) (messagesOf ds es s c) wide (few-sent f accepted (sounds (o .parts)) ds s c) answers
 
-    sending-told : printedFrom f (n + 1) (standing (r .memory) (r .room)) ls ≡ toldFrom f ds es (n + 1) (total + length (messagesBy ds es s c)) (after (length ds) s c) ls
-        → carriedSending f true r .output ++ printedFrom f (n + 1) (carriedSending f true r .stand) ls
+    sending-told : printedFrom f (o .grace) (n + 1) (standing (r .memory) (r .room)) ls ≡ toldFrom f ds es (n + 1) (total + length (messagesBy ds es s c)) (after (length ds) s c) ls
+        → carriedSending f true r .output ++ printedFrom f (o .grace) (n + 1) (carriedSending f true r .stand) ls
         ≡ callTold f ds es s d ++ toldFrom f ds es (n + 1) (total + length (messagesBy ds es s d)) (after (length ds) s d) ls
     unfolding carriedSending
     sending-told rest = rw (← alike-told alike f, ← alike-sent alike, ← alike-after alike, sent-told, rest)
@@ -157,8 +157,8 @@ module _ (f : List ℕ) (accepted : Accepted f) (o : Terms) where
 
   module _ (n total : ℕ) (s : Now) (m room : List ℕ) (holds : Holds f o total s m) (wide : roomSize ≤ length room) (l : List ℕ) (ls : List (List ℕ))
       (later : (total : ℕ) (s : Now) (m room : List ℕ) → Holds f o total s m → roomSize ≤ length room
-      → printedFrom f (n + 1) (standing m room) ls ≡ toldFrom f ds es (n + 1) total s ls) where
-    hear-told : (h tempo : ℕ) → commandOf l ≡ Hear h tempo → printedFrom f n (standing m room) (l ∷ ls) ≡ toldFrom f ds es n total s (l ∷ ls)
+      → printedFrom f (o .grace) (n + 1) (standing m room) ls ≡ toldFrom f ds es (n + 1) total s ls) where
+    hear-told : (h tempo : ℕ) → commandOf l ≡ Hear h tempo → printedFrom f (o .grace) n (standing m room) (l ∷ ls) ≡ toldFrom f ds es n total s (l ∷ ls)
     unfolding answerIn answer memoryAfter askedBy
     hear-told h tempo e =
         let c : Call = note room h tempo in
@@ -166,12 +166,12 @@ module _ (f : List ℕ) (accepted : Accepted f) (o : Terms) where
         let answers = call-answers f accepted o total s m holds c in
         let leaves = call-leaves f accepted o total s m holds c in
         let alike = notes-alike ds es s room (zeros roomSize) wide zeros-wide h tempo in
-        printed-line f n (standing m room) l ls _ (heard-line f n m room l h tempo e)
+        printed-line f (o .grace) n (standing m room) l ls _ (heard-line f (o .grace) n m room l h tempo e)
         ∙ (sending-told n total s room c (note (zeros roomSize) h tempo) r ls answers leaves alike
         (later _ _ (r .memory) (r .room) leaves (still-wide n total s room c (note (zeros roomSize) h tempo) r ls answers leaves alike wide))
         ∙ sym (told-call f ds es n total s l ls (Hear h tempo) (note (zeros roomSize) h tempo) e refl))
 
-    pass-told : (ms : ℕ) → commandOf l ≡ Pass ms → printedFrom f n (standing m room) (l ∷ ls) ≡ toldFrom f ds es n total s (l ∷ ls)
+    pass-told : (ms : ℕ) → commandOf l ≡ Pass ms → printedFrom f (o .grace) n (standing m room) (l ∷ ls) ≡ toldFrom f ds es n total s (l ∷ ls)
     unfolding answerIn answer memoryAfter askedBy
     pass-told ms e =
         let c : Call = pass room ms in
@@ -179,25 +179,25 @@ module _ (f : List ℕ) (accepted : Accepted f) (o : Terms) where
         let answers = call-answers f accepted o total s m holds c in
         let leaves = call-leaves f accepted o total s m holds c in
         let alike = passes-alike ds es s room (zeros roomSize) wide zeros-wide ms in
-        printed-line f n (standing m room) l ls _ (passed-line f n m room l ms e)
+        printed-line f (o .grace) n (standing m room) l ls _ (passed-line f (o .grace) n m room l ms e)
         ∙ (sending-told n total s room c (pass (zeros roomSize) ms) r ls answers leaves alike
         (later _ _ (r .memory) (r .room) leaves (still-wide n total s room c (pass (zeros roomSize) ms) r ls answers leaves alike wide))
         ∙ sym (told-call f ds es n total s l ls (Pass ms) (pass (zeros roomSize) ms) e refl))
 
-    bad-told : (k : Command) → commandOf l ≡ k → askedBy k ≡ none → carried f n (standing m room) l ≡ record { stand = standing m room; output = badLine n }
-        → printedFrom f n (standing m room) (l ∷ ls) ≡ toldFrom f ds es n total s (l ∷ ls)
+    bad-told : (k : Command) → commandOf l ≡ k → askedBy k ≡ none → carried f (o .grace) n (standing m room) l ≡ record { stand = standing m room; output = badLine n }
+        → printedFrom f (o .grace) n (standing m room) (l ∷ ls) ≡ toldFrom f ds es n total s (l ∷ ls)
     bad-told k e a c =
-        printed-line f n (standing m room) l ls _ c ∙ (ap (λ (t : List ℕ). badLine n ++ t) (later total s m room holds wide) ∙ sym (told-bad f ds es n total s l ls k e a))
+        printed-line f (o .grace) n (standing m room) l ls _ c ∙ (ap (λ (t : List ℕ). badLine n ++ t) (later total s m room holds wide) ∙ sym (told-bad f ds es n total s l ls k e a))
 
-    line-told : 2 ≤ n → (k : Command) → commandOf l ≡ k → printedFrom f n (standing m room) (l ∷ ls) ≡ toldFrom f ds es n total s (l ∷ ls)
+    line-told : 2 ≤ n → (k : Command) → commandOf l ≡ k → printedFrom f (o .grace) n (standing m room) (l ∷ ls) ≡ toldFrom f ds es n total s (l ∷ ls)
     unfolding askedBy
-    line-told two (Open parts tempo) e = bad-told (Open parts tempo) e refl (late-line f n m room l parts tempo two e)
+    line-told two (Open parts tempo) e = bad-told (Open parts tempo) e refl (late-line f (o .grace) n m room l parts tempo two e)
     line-told two (Hear h tempo) e = hear-told h tempo e
     line-told two (Pass ms) e = pass-told ms e
-    line-told two Bad e = bad-told Bad e refl (bad-line f n m room l e)
+    line-told two Bad e = bad-told Bad e refl (bad-line f (o .grace) n m room l e)
 
   lines-told : (ls : List (List ℕ)) (n total : ℕ) (s : Now) (m room : List ℕ) → 2 ≤ n → Holds f o total s m → roomSize ≤ length room
-      → printedFrom f n (standing m room) ls ≡ toldFrom f ds es n total s ls
+      → printedFrom f (o .grace) n (standing m room) ls ≡ toldFrom f ds es n total s ls
   unfolding printedFrom toldFrom ending
   lines-told [] n total s m room two holds wide = rw (figures-told total s m holds)
   lines-told (l ∷ ls) n total s m room two holds wide =
@@ -208,53 +208,55 @@ module _ (f : List ℕ) (accepted : Accepted f) (o : Terms) where
 zeros-long : memorySize ≤ length (zeros memorySize)
 zeros-long = omega (arith, zeros-length memorySize)
 
-module _ (f : List ℕ) (o : Terms) (accepted : Accepted f) (sixteen : o .parts < 65536) (speed : between 1 mostTempo (o .tempo) ≡ true) where
+module _ (f : List ℕ) (o : Terms) (accepted : Accepted f) (sixteen : o .parts < 65536) (speed : between 1 mostTempo (o .tempo) ≡ true)
+    (graced : o .grace ≤ mostGrace) where
   -- The first line opens the session.
   opening-line : (first : List ℕ) → commandOf first ≡ Open (o .parts) (o .tempo)
-      → carried f 1 outset first
+      → carried f (o .grace) 1 outset first
       ≡ record { stand = standing (opened (zeros memorySize) f o .memory) (zeros roomSize); output = openLine 0 (soundingBelow (o .parts) 16) }
   unfolding carried carriedBy inTurn pick outset carriedOpening openingReply
   opening-line first e =
-      rw (e, opened-sounding (zeros memorySize) f o (granted f (zeros memorySize) o accepted zeros-long sixteen speed) sixteen)
+      rw (e, opened-sounding (zeros memorySize) f o (granted f (zeros memorySize) o accepted zeros-long sixteen speed graced) sixteen)
 
   -- Whatever the lines after it are.
   granted-told : (first : List ℕ) (rest : List (List ℕ)) → commandOf first ≡ Open (o .parts) (o .tempo)
-      → printedFrom f 1 outset (first ∷ rest)
+      → printedFrom f (o .grace) 1 outset (first ∷ rest)
       ≡ openLine 0 (soundingBelow (o .parts) 16) ++ toldFrom f (decode f .durations) (soundingIn f (sounds (o .parts))) 2 0 (start o) rest
   granted-told first rest e =
-      printed-line f 1 outset first rest _ (opening-line first e)
+      printed-line f (o .grace) 1 outset first rest _ (opening-line first e)
       ∙ ap (λ (t : List ℕ). openLine 0 (soundingBelow (o .parts) 16) ++ t)
       (lines-told f accepted o rest 2 0 (start o) (opened (zeros memorySize) f o .memory) (zeros roomSize) (omega arith)
-      (opened-holds f (zeros memorySize) o accepted zeros-long sixteen speed) zeros-wide)
+      (opened-holds f (zeros memorySize) o accepted zeros-long sixteen speed graced) zeros-wide)
 
 -- ---- the whole input
 
 module _ (f l : List ℕ) (ls : List (List ℕ)) where
   opening-told : (o : Terms) → commandOf l ≡ Open (o .parts) (o .tempo) → (v : Check Refusal) → openingCheck (zeros memorySize) f o ≡ v
-      → printedFrom f 1 outset (l ∷ ls) ≡ openingTold f o v ls
+      → printedFrom f (o .grace) 1 outset (l ∷ ls) ≡ openingTold f o v ls
   unfolding openingTold
   opening-told o e fine g =
       let few : o .parts ≤ mostParts = command-parts (o .parts) (o .tempo) l e in
-      granted-told f o (opened-accepted (zeros memorySize) f o g) (omega arith) (opened-tempo (zeros memorySize) f o g) l ls e
-  opening-told o e (refused x) g = refused-first f l ls o x e g
+      granted-told f o (opened-accepted (zeros memorySize) f o g) (omega arith) (opened-tempo (zeros memorySize) f o g) (opened-grace (zeros memorySize) f o g) l ls e
+  opening-told o e (refused x) g = refused-first f (o .grace) l ls o x refl e g
 
-  first-told : (c : Command) → commandOf l ≡ c → printedFrom f 1 outset (l ∷ ls) ≡ firstTold f c l ls
+  first-told : (g : ℕ) (c : Command) → commandOf l ≡ c → printedFrom f g 1 outset (l ∷ ls) ≡ firstTold f g c l ls
   unfolding firstTold
-  first-told (Open parts tempo) e = opening-told (record { parts = parts; tempo = tempo }) e _ refl
-  first-told (Hear event tempo) e = heard-first f l ls event tempo e
-  first-told (Pass ms) e = passed-first f l ls ms e
-  first-told Bad e = bad-first f l ls e
+  first-told g (Open parts tempo) e = opening-told (record { parts = parts; tempo = tempo; grace = g }) e _ refl
+  first-told g (Hear event tempo) e = heard-first f g l ls event tempo e
+  first-told g (Pass ms) e = passed-first f g l ls ms e
+  first-told g Bad e = bad-first f g l ls e
 
-every-told : (f : List ℕ) (ls : List (List ℕ)) → printedFrom f 1 outset ls ≡ linesTold f ls
+every-told : (f : List ℕ) (g : ℕ) (ls : List (List ℕ)) → printedFrom f g 1 outset ls ≡ linesTold f g ls
 unfolding linesTold
-every-told f [] = unopened-all f
-every-told f (l ∷ ls) = first-told f l ls (commandOf l) refl
+every-told f g [] = unopened-all f g
+every-told f g (l ∷ ls) = first-told f l ls g (commandOf l) refl
 
--- What is printed is what the rules give, whatever the bytes of the score file and of the input are.
-pub printed-told : (f input : List ℕ) → printed f input ≡ told f input
+-- What is printed is what the rules give, whatever the bytes of the score file and of the input are, and the grace.
+pub printed-told : (f : List ℕ) (g : ℕ) (input : List ℕ) → printed f g input ≡ told f g input
 unfolding printed told
-printed-told f input = every-told f (linesOf input)
+printed-told f g input = every-told f g (linesOf input)
 
 -- So are the outputs joined, whatever the chunks in which an input comes.
-pub chunks-told : (f : List ℕ) (chunks : List (List ℕ)) → chunksRead f nothingRead chunks .output ++ endRead f (chunksRead f nothingRead chunks .reading) ≡ told f (inputOf chunks)
-chunks-told f chunks = whatever-the-chunks f chunks ∙ printed-told f (inputOf chunks)
+pub chunks-told : (f : List ℕ) (g : ℕ) (chunks : List (List ℕ))
+    → chunksRead f (nothingRead g) chunks .output ++ endRead f (chunksRead f (nothingRead g) chunks .reading) ≡ told f g (inputOf chunks)
+chunks-told f g chunks = whatever-the-chunks f g chunks ∙ printed-told f g (inputOf chunks)

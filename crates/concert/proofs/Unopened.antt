@@ -31,8 +31,8 @@ use Rattle.playing.proofs.OpenSteps.{refusal-numbered}
 use Rattle.concert.specs.Told.{unopenedFrom}
 
 -- A line, and those after it.
-module _ (f : List ℕ) (n : ℕ) (st : Stand) (l : List ℕ) (ls : List (List ℕ)) where
-  pub printed-line : (c : Carried) → carried f n st l ≡ c → printedFrom f n st (l ∷ ls) ≡ c .output ++ printedFrom f (n + 1) (c .stand) ls
+module _ (f : List ℕ) (g n : ℕ) (st : Stand) (l : List ℕ) (ls : List (List ℕ)) where
+  pub printed-line : (c : Carried) → carried f g n st l ≡ c → printedFrom f g n st (l ∷ ls) ≡ c .output ++ printedFrom f g (n + 1) (c .stand) ls
   unfolding printedFrom
   printed-line c e = rw e
 
@@ -55,53 +55,53 @@ no-end = rw (no-figures (zeros memorySize) (none-known (zeros memorySize) (omega
 abbrev badly : ℕ → Carried
 badly n = record { stand = outset; output = badLine n }
 
-module _ (f : List ℕ) (n : ℕ) where
+module _ (f : List ℕ) (g n : ℕ) where
   -- What is out of turn where line n is not the first, and where it is.
-  late-bad : (c : Command) → carriedBy f n outset (inTurn false false c) ≡ badly n
+  late-bad : (c : Command) → carriedBy f g n outset (inTurn false false c) ≡ badly n
   unfolding carriedBy inTurn pick
   late-bad (Open parts tempo) = refl
   late-bad (Hear event tempo) = refl
   late-bad (Pass ms) = refl
   late-bad Bad = refl
 
-  late-line : (l : List ℕ) → 2 ≤ n → carried f n outset l ≡ badly n
+  late-line : (l : List ℕ) → 2 ≤ n → carried f g n outset l ≡ badly n
   unfolding carried outset
   late-line l two = let other : eqb n 1 ≡ false = ne-eqb n 1 (λ z. omega arith) in rw other (late-bad (commandOf l))
 
-pub unopened-lines : (f : List ℕ) (n : ℕ) → 2 ≤ n → (ls : List (List ℕ)) → printedFrom f n outset ls ≡ unopenedFrom n ls
+pub unopened-lines : (f : List ℕ) (g n : ℕ) → 2 ≤ n → (ls : List (List ℕ)) → printedFrom f g n outset ls ≡ unopenedFrom n ls
 unfolding unopenedFrom printedFrom
-unopened-lines f n two [] = no-end
-unopened-lines f n two (l ∷ ls) =
-    printed-line f n outset l ls _ (late-line f n l two) ∙ ap (λ (t : List ℕ). badLine n ++ t) (unopened-lines f (n + 1) (omega arith) ls)
+unopened-lines f g n two [] = no-end
+unopened-lines f g n two (l ∷ ls) =
+    printed-line f g n outset l ls _ (late-line f g n l two) ∙ ap (λ (t : List ℕ). badLine n ++ t) (unopened-lines f g (n + 1) (omega arith) ls)
 
 -- From the first line on, where it is no opening.
-module _ (f : List ℕ) where
-  pub unopened-all : printedFrom f 1 outset [] ≡ unopenedFrom 1 []
+module _ (f : List ℕ) (g : ℕ) where
+  pub unopened-all : printedFrom f g 1 outset [] ≡ unopenedFrom 1 []
   unfolding unopenedFrom printedFrom
   unopened-all = no-end
 
   module _ (l : List ℕ) (ls : List (List ℕ)) where
-    pub unopened-first : carried f 1 outset l ≡ badly 1 → printedFrom f 1 outset (l ∷ ls) ≡ unopenedFrom 1 (l ∷ ls)
+    pub unopened-first : carried f g 1 outset l ≡ badly 1 → printedFrom f g 1 outset (l ∷ ls) ≡ unopenedFrom 1 (l ∷ ls)
     unfolding unopenedFrom
-    unopened-first e = printed-line f 1 outset l ls _ e ∙ ap (λ (t : List ℕ). badLine 1 ++ t) (unopened-lines f 2 (omega arith) ls)
+    unopened-first e = printed-line f g 1 outset l ls _ e ∙ ap (λ (t : List ℕ). badLine 1 ++ t) (unopened-lines f g 2 (omega arith) ls)
 
-    pub heard-first : (event tempo : ℕ) → commandOf l ≡ Hear event tempo → printedFrom f 1 outset (l ∷ ls) ≡ unopenedFrom 1 (l ∷ ls)
+    pub heard-first : (event tempo : ℕ) → commandOf l ≡ Hear event tempo → printedFrom f g 1 outset (l ∷ ls) ≡ unopenedFrom 1 (l ∷ ls)
     unfolding carried carriedBy inTurn pick outset
     heard-first event tempo e = unopened-first (rw e)
 
-    pub passed-first : (ms : ℕ) → commandOf l ≡ Pass ms → printedFrom f 1 outset (l ∷ ls) ≡ unopenedFrom 1 (l ∷ ls)
+    pub passed-first : (ms : ℕ) → commandOf l ≡ Pass ms → printedFrom f g 1 outset (l ∷ ls) ≡ unopenedFrom 1 (l ∷ ls)
     unfolding carried carriedBy inTurn pick outset
     passed-first ms e = unopened-first (rw e)
 
-    pub bad-first : commandOf l ≡ Bad → printedFrom f 1 outset (l ∷ ls) ≡ unopenedFrom 1 (l ∷ ls)
+    pub bad-first : commandOf l ≡ Bad → printedFrom f g 1 outset (l ∷ ls) ≡ unopenedFrom 1 (l ∷ ls)
     unfolding carried carriedBy inTurn pick outset
     bad-first e = unopened-first (rw e)
 
     -- A refused opening leaves no session.
-    pub refused-first : (o : Terms) (x : Refusal) → commandOf l ≡ Open (o .parts) (o .tempo) → openingCheck (zeros memorySize) f o ≡ refused x
-        → printedFrom f 1 outset (l ∷ ls) ≡ openLine (refusalRow x .number) 0 ++ unopenedFrom 2 ls
+    pub refused-first : (o : Terms) (x : Refusal) → o .grace ≡ g → commandOf l ≡ Open (o .parts) (o .tempo) → openingCheck (zeros memorySize) f o ≡ refused x
+        → printedFrom f g 1 outset (l ∷ ls) ≡ openLine (refusalRow x .number) 0 ++ unopenedFrom 2 ls
     unfolding carried carriedBy inTurn pick outset carriedOpening openingReply
-    refused-first o x e r =
-        let line : carried f 1 outset l ≡ record { stand = outset; output = openLine (refusalRow x .number) 0 } =
-        rw (e, refused-kept (zeros memorySize) f o x r, refusal-numbered x) in
-        printed-line f 1 outset l ls _ line ∙ ap (λ (t : List ℕ). openLine (refusalRow x .number) 0 ++ t) (unopened-lines f 2 (omega arith) ls)
+    refused-first o x same e r =
+        let line : carried f g 1 outset l ≡ record { stand = outset; output = openLine (refusalRow x .number) 0 } =
+        rw (e, ← same, refused-kept (zeros memorySize) f o x r, refusal-numbered x) in
+        printed-line f g 1 outset l ls _ line ∙ ap (λ (t : List ℕ). openLine (refusalRow x .number) 0 ++ t) (unopened-lines f g 2 (omega arith) ls)

@@ -79,19 +79,19 @@ unfoldable pub openingTold : (file : List ℕ) → Terms → Check Refusal → L
 openingTold f o fine ls = openLine 0 (soundingBelow (o .parts) 16) ++ toldFrom f (decode f .durations) (soundingIn f (sounds (o .parts))) 2 0 (start o) ls
 openingTold f o (refused x) ls = openLine (refusalRow x .number) 0 ++ unopenedFrom 2 ls
 
--- By what the first line asks for: an opening, in 8,192 words, or nothing that is in turn.
-unfoldable pub firstTold : (file : List ℕ) → Command → (line : List ℕ) → List (List ℕ) → List ℕ
-firstTold f (Open parts tempo) l ls =
-    let o : Terms = record { parts = parts; tempo = tempo } in
+-- By what the first line asks for: an opening with this grace, in 8,192 words, or nothing that is in turn.
+unfoldable pub firstTold : (file : List ℕ) → (grace : ℕ) → Command → (line : List ℕ) → List (List ℕ) → List ℕ
+firstTold f g (Open parts tempo) l ls =
+    let o : Terms = record { parts = parts; tempo = tempo; grace = g } in
     openingTold f o (openingCheck (zeros memorySize) f o) ls
-firstTold f (Hear event tempo) l ls = unopenedFrom 1 (l ∷ ls)
-firstTold f (Pass ms) l ls = unopenedFrom 1 (l ∷ ls)
-firstTold f Bad l ls = unopenedFrom 1 (l ∷ ls)
+firstTold f g (Hear event tempo) l ls = unopenedFrom 1 (l ∷ ls)
+firstTold f g (Pass ms) l ls = unopenedFrom 1 (l ∷ ls)
+firstTold f g Bad l ls = unopenedFrom 1 (l ∷ ls)
 
-unfoldable pub linesTold : (file : List ℕ) → List (List ℕ) → List ℕ
-linesTold f [] = unopenedFrom 1 []
-linesTold f (l ∷ ls) = firstTold f (commandOf l) l ls
+unfoldable pub linesTold : (file : List ℕ) → (grace : ℕ) → List (List ℕ) → List ℕ
+linesTold f g [] = unopenedFrom 1 []
+linesTold f g (l ∷ ls) = firstTold f g (commandOf l) l ls
 
--- What `play` prints.
-unfoldable pub told : (file input : List ℕ) → List ℕ
-told f input = linesTold f (linesOf input)
+-- What is printed, where the opening is given this grace. "`play` opens with grace 0."
+unfoldable pub told : (file : List ℕ) → (grace : ℕ) → (input : List ℕ) → List ℕ
+told f g input = linesTold f g (linesOf input)

@@ -17,7 +17,7 @@ use Rattle.contents.specs.declared.Fault.{Fault}
 use Rattle.contents.specs.declared.Fault.the-variants.{FileShort, BadCount, BadOffset, BadLength, BadEvent, BadItem, BadMessage, TextLeft, NoMessage}
 use Rattle.contents.specs.Replies.{faultRow}
 use Rattle.session.specs.declared.Refusal.{Refusal}
-use Rattle.session.specs.declared.Refusal.the-variants.{MemoryShort, RoomShort, File, BadTempo, NoSession, NoEvent, NotAfter, BadMillis, ClockFull}
+use Rattle.session.specs.declared.Refusal.the-variants.{MemoryShort, RoomShort, File, BadTempo, BadGrace, NoSession, NoEvent, NotAfter, BadMillis, ClockFull}
 use Rattle.session.specs.Replies.{refusalRow}
 use Rattle.sending.specs.Room.{Message}
 use Rattle.opening.specs.declared.Opening.{Opening}
@@ -52,6 +52,7 @@ number-told MemoryShort c = refl
 number-told RoomShort c = refl
 number-told (File x) c = fault-told x c
 number-told BadTempo c = refl
+number-told BadGrace c = refl
 number-told NoSession c = refl
 number-told NoEvent c = refl
 number-told NotAfter c = refl
@@ -86,13 +87,13 @@ sending-silent f m room (notSent x) = refl
 
 -- ---- every line
 
-command-told : (f : List ℕ) (n : ℕ) (s : Stand) (c : Command) → tellsRefusal (carriedBy f n s c .output) ≡ refusedBy f n s c
+command-told : (f : List ℕ) (g n : ℕ) (s : Stand) (c : Command) → tellsRefusal (carriedBy f g n s c .output) ≡ refusedBy f g n s c
 unfolding carriedBy carriedOpening carriedSending refusedBy tellsRefusal begins pick wordLine
-command-told f n s (Open parts tempo) = opening-told _
-command-told f n s (Hear event tempo) = sending-silent f _ _ _
-command-told f n s (Pass ms) = sending-silent f _ _ _
-command-told f n s Bad = refl
+command-told f g n s (Open parts tempo) = opening-told _
+command-told f g n s (Hear event tempo) = sending-silent f _ _ _
+command-told f g n s (Pass ms) = sending-silent f _ _ _
+command-told f g n s Bad = refl
 
-pub refusal-told : (f : List ℕ) (n : ℕ) (s : Stand) (l : List ℕ) → tellsRefusal (carried f n s l .output) ≡ openingRefused f n s l
+pub refusal-told : (f : List ℕ) (g n : ℕ) (s : Stand) (l : List ℕ) → tellsRefusal (carried f g n s l .output) ≡ openingRefused f g n s l
 unfolding carried openingRefused
-refusal-told f n s l = command-told f n s _
+refusal-told f g n s l = command-told f g n s _

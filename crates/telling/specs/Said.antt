@@ -6,7 +6,7 @@ use lib.ListN.{take}
 use Rattle.base.specs.Tests.{pick}
 use Rattle.ascii.specs.Text.{bytesOf}
 use Rattle.session.specs.declared.Refusal.{Refusal}
-use Rattle.session.specs.declared.Refusal.the-variants.{MemoryShort, RoomShort, File, BadTempo, NoSession, NoEvent, NotAfter, BadMillis, ClockFull}
+use Rattle.session.specs.declared.Refusal.the-variants.{MemoryShort, RoomShort, File, BadTempo, BadGrace, NoSession, NoEvent, NotAfter, BadMillis, ClockFull}
 use Rattle.refusals.specs.Line.{refusalLine}
 
 -- A name is told up to this many bytes.
@@ -27,15 +27,32 @@ ofFile MemoryShort = false
 ofFile RoomShort = false
 ofFile (File x) = true
 ofFile BadTempo = false
+ofFile BadGrace = false
 ofFile NoSession = false
 ofFile NoEvent = false
 ofFile NotAfter = false
 ofFile BadMillis = false
 ofFile ClockFull = false
 
--- What is refused: the score, or the first line of the commands.
+-- Whether it is for the grace, which is told by the name that the usage has for it.
+unfoldable pub ofGrace : Refusal → Bool
+ofGrace MemoryShort = false
+ofGrace RoomShort = false
+ofGrace (File x) = false
+ofGrace BadTempo = false
+ofGrace BadGrace = true
+ofGrace NoSession = false
+ofGrace NoEvent = false
+ofGrace NotAfter = false
+ofGrace BadMillis = false
+ofGrace ClockFull = false
+
+abbrev pub graceName : List ℕ
+graceName = bytesOf "GRACE"
+
+-- What is refused: the score, the grace, or the first line of the commands.
 unfoldable pub refusedName : (score first : List ℕ) → Refusal → List ℕ
-refusedName score first x = pick (ofFile x) score first
+refusedName score first x = pick (ofFile x) score (pick (ofGrace x) graceName first)
 
 -- The line of a refusal of what has this name, with the entry of the score's bytes that is at fault.
 unfoldable pub refusedLine : (name file : List ℕ) → Refusal → List ℕ

@@ -6,8 +6,8 @@ ghost use lib.ListN.{length, take};
 ghost use Rattle.base.specs.Tests.{pick};
 ghost use Rattle.ascii.specs.Laying.{Laid};
 ghost use Rattle.reasons.specs.Reasons.{unreadLine, unwrittenLine};
-ghost use Rattle.telling.specs.Openings.{tellsRefusal, tellsUnopened};
-ghost use Rattle.telling.specs.Said.{mostName, saidRoom, toldName, ofFile, refusedName, refusedLine, unopenedLine};
+ghost use Rattle.telling.specs.Openings.{tellsRefusal, tellsGrace, tellsUnopened};
+ghost use Rattle.telling.specs.Said.{mostName, saidRoom, toldName, ofFile, ofGrace, refusedName, refusedLine, unopenedLine};
 use ascii::put_bytes;
 use session::Refusal;
 
@@ -73,6 +73,25 @@ fn of_file(x: Refusal) -> bool
         Refusal::RoomShort => false,
         Refusal::File(_) => true,
         Refusal::BadTempo => false,
+        Refusal::BadGrace => false,
+        Refusal::NoSession => false,
+        Refusal::NoEvent => false,
+        Refusal::NotAfter => false,
+        Refusal::BadMillis => false,
+        Refusal::ClockFull => false,
+    }
+}
+
+// Whether it is for the grace.
+fn of_grace(x: Refusal) -> bool
+    ensures { λ r. ⌜ r ≡ ofGrace x ⌝ }
+{
+    match x {
+        Refusal::MemoryShort => false,
+        Refusal::RoomShort => false,
+        Refusal::File(_) => false,
+        Refusal::BadTempo => false,
+        Refusal::BadGrace => true,
         Refusal::NoSession => false,
         Refusal::NoEvent => false,
         Refusal::NotAfter => false,
@@ -90,7 +109,7 @@ fn put_refused(text: &mut [u8], name: &[u8], file: &[u8], x: Refusal) -> usize
     refusals::refusal_line(text, &name[..n], file, x)
 }
 
-// The line that tells people why an opening was refused: for what is in the file, or for what is in line 1.
+// The line that tells people why an opening was refused: for what is in the file, for the grace, or for what is in line 1.
 fn put_refusal(text: &mut [u8], score: &[u8], first: &[u8], file: &[u8], x: Refusal) -> usize
     requires { ⌜ saidRoom ≤ length (now text) ⌝ }
     ensures { λ r. ⌜ Laid (now (text .entry)) 0 (refusedLine (refusedName (now (score .entry)) (now (first .entry)) x) (now (file .entry)) x) (now (text .exit)) r ⌝ }
@@ -98,12 +117,16 @@ fn put_refusal(text: &mut [u8], score: &[u8], first: &[u8], file: &[u8], x: Refu
     if of_file(x) {
         return put_refused(text, score, file, x);
     }
+    if of_grace(x) {
+        return put_refused(text, b"GRACE", file, x);
+    }
     put_refused(text, first, file, x)
 }
 
-fn say_refusal(file: &[u8], score: &[u8], first: &[u8]) {
+fn say_refusal(file: &[u8], score: &[u8], first: &[u8], nineteen: bool) {
     let mut text = [0u8; SAID_ROOM];
-    let n = put_refusal(&mut text, score, first, file, playing::why_refused(file));
+    let x = playing::why_refused(file, nineteen);
+    let n = put_refusal(&mut text, score, first, file, x);
     streams::say_first(&text, n);
 }
 
@@ -116,6 +139,14 @@ fn is_refusal(out: &[u8], n: usize) -> bool
         return false;
     }
     ascii::begins(b"open ", &out[..n])
+}
+
+// Whether they tell of one that is refused for its grace.
+fn is_grace(out: &[u8], n: usize) -> bool
+    requires { ⌜ n ≤ length (now out) ⌝ }
+    ensures { λ r. ⌜ r ≡ tellsGrace (take n (now (out .entry))) ⌝ }
+{
+    ascii::begins(b"open 19 ", &out[..n])
 }
 
 // ---- a first line that opens nothing
@@ -183,6 +214,6 @@ pub fn after_line(
         say_unopened(first, out, n);
         return refused;
     }
-    say_refusal(file, score, first);
+    say_refusal(file, score, first, is_grace(out, n));
     true
 }
