@@ -9,7 +9,7 @@ use Rattle.menu.specs.Help.{padded, commandLine, commandLines, helpHead,
 pub help-told : helpText
     ≡ bytesOf "usage: bin/poolmirror COMMAND ARGS\n\n"
     ++ (bytesOf "  check FILE ..                 says of each file what is in it, or why it is refused\n"
-    ++ (bytesOf "  play FILE COMMANDS            plays a score by commands, and prints what the electronics are sent\n"
+    ++ (bytesOf "  play FILE COMMANDS [GRACE]    plays a score by commands, and prints what is sent; GRACE is 0 to 630 grains\n"
     ++ (bytesOf "  read TEXT FILE                reads a score that is written as text, and makes its file\n"
     ++ (bytesOf "  write FILE TEXT               writes a score as text, to be read, corrected and sent back\n"
     ++ (bytesOf "  unfold EXTENDED FILE          unfolds the loops and curves of an extended score, and makes its file\n"

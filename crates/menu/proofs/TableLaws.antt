@@ -1,9 +1,10 @@
--- Every command of the table is listed and found by its own name, and by no other; each usage leaves a space before its help.
+-- Every command of the table is listed and found by its own name, and by no other; each usage leaves a space before its help; behind the files there is one number
+-- at most.
 -- Assumes nothing.
 use mathlib.Core.Path.{_≡_, refl}
 use mathlib.Core.Bool.{Bool, true, false}
 use mathlib.Core.List.{List, [], _∷_}
-use Prim.Native.Nat.{ℕ, _<_}
+use Prim.Native.Nat.{ℕ, _+_, _<_, _≤_}
 use native.Mathlib.Omega.{arith}
 use lib.ListN.{length}
 use Rattle.base.specs.Tests.{pick, every}
@@ -39,6 +40,17 @@ usage-apart Write = omega arith
 usage-apart Unfold = omega arith
 usage-apart Replies = omega arith
 usage-apart Help = omega arith
+
+-- the files that are read are files, the files are arguments, and one argument at most is no file
+pub arguments-fit : (c : Command) → (rowOf c .reads ≤ rowOf c .files) × (rowOf c .files ≤ rowOf c .most) × (rowOf c .most ≤ rowOf c .files + 1)
+unfolding rowOf
+arguments-fit Check = (omega arith, omega arith, omega arith)
+arguments-fit Play = (omega arith, omega arith, omega arith)
+arguments-fit Read = (omega arith, omega arith, omega arith)
+arguments-fit Write = (omega arith, omega arith, omega arith)
+arguments-fit Unfold = (omega arith, omega arith, omega arith)
+arguments-fit Replies = (omega arith, omega arith, omega arith)
+arguments-fit Help = (omega arith, omega arith, omega arith)
 
 -- ---- what is found is the command of that name
 

@@ -22,9 +22,9 @@ use Rattle.menu.specs.Rows.{Holds, rowWith}
 
 -- ---- a row laid
 
-module _ {o m₁ m₂ n name usage help : List ℕ} {a b e : ℕ} (least most reads : ℕ) where
+module _ {o m₁ m₂ n name usage help : List ℕ} {a b e : ℕ} (least most files reads : ℕ) where
   pub lay-row : length name ≤ nameWidth → length usage < usageWidth → length help ≤ helpWidth → Laid o 0 name m₁ a → Laid m₁ a usage m₂ b → Laid m₂ b help n e
-      → Holds o (rowWith name usage help least most reads) n (record { name = a; usage = b; help = e; least = least; most = most; reads = reads })
+      → Holds o (rowWith name usage help least most files reads) n (record { name = a; usage = b; help = e; least = least; most = most; files = files; reads = reads })
   lay-row bn bu bh p q s =
       record {
         laid = laid-join o m₁ n _ _ 0 a e p (laid-join m₁ m₂ n _ _ a b e q s);
@@ -33,6 +33,7 @@ module _ {o m₁ m₂ n name usage help : List ℕ} {a b e : ℕ} (least most re
         help = s .stop;
         least = refl;
         most = refl;
+        files = refl;
         reads = refl;
         brief = bn;
         narrow = bu;

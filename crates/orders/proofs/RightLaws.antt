@@ -8,18 +8,19 @@ use native.Mathlib.Omega.{arith}
 use lib.Dec.{eqb, leb, ltb}
 use borrow.Author.Tests.{leb-false, ltb-false}
 use Rattle.base.specs.Tests.{pick}
+use Rattle.ascii.specs.Numbers.{isNumber, value}
 use Rattle.ascii.specs.Words.{same}
 use Rattle.menu.specs.declared.Command.{Command}
 use Rattle.orders.specs.declared.Argument.{Argument}
 use Rattle.orders.specs.declared.Argument.the-variants.{Name, Plain, Wish, Dashed}
 use Rattle.orders.specs.declared.Usage.{Usage}
-use Rattle.orders.specs.declared.Usage.the-variants.{Right, TooFew, TooMany, InputTwice}
+use Rattle.orders.specs.declared.Usage.the-variants.{Right, TooFew, TooMany, NoNumber, InputTwice}
 use Rattle.orders.specs.declared.Names.{Names}
 use Rattle.orders.specs.declared.Order.{Order}
 use Rattle.menu.specs.declared.table.Lookup.{Lookup}
 use Rattle.menu.specs.declared.table.Lookup.the-variants.{Known, Unknown}
 use Rattle.menu.specs.Table.{rowOf, commandNamed}
-use Rattle.orders.specs.Usage.{dash, argumentOf, noNames, nameMore, fresh, stopped, isRight, begunNamed, begunAs, begun, named, nameTaken, takenPlain, takenAs, taken, closed, takenAll, ordered, isInput}
+use Rattle.orders.specs.Usage.{dash, argumentOf, noNames, nameMore, fresh, stopped, isRight, begunNamed, begunAs, begun, named, numbered, fileTaken, numberTaken, nameTaken, takenPlain, takenAs, taken, closed, takenAll, ordered, isInput}
 
 -- no more names than the command takes, and standard input once at most
 pub record Fitting (o : Order) : Type 0 where
@@ -68,15 +69,29 @@ module _ (o : Order) (f : Fitting o) where
       let c : nameMore (o .names) i .count ≡ o .names .count + 1 = more-counted (o .names) i in
       record { few = omega arith; single = q }
 
-  name-fits : (i : ℕ) (arg : List ℕ) → Fitting (nameTaken o i arg)
-  unfolding nameTaken pick
-  name-fits i arg = go (leb (rowOf (o .command) .most) (o .names .count)) (isInput o arg) (leb 1 (o .inputs)) refl refl where
-    go : (t s u : Bool) → leb (rowOf (o .command) .most) (o .names .count) ≡ t → leb 1 (o .inputs) ≡ u
-        → Fitting (pick t (stopped o TooMany i) (pick s (pick u (stopped o InputTwice i) (named o i (o .inputs + 1))) (named o i (o .inputs))))
-    go true s u e d = stopped-fits TooMany i
-    go false true true e d = stopped-fits InputTwice i
-    go false true false e d = let l : o .inputs < 1 = leb-false 1 (o .inputs) d in named-more-fits i (o .inputs + 1) (leb-false _ _ e) (omega arith)
-    go false false u e d = named-more-fits i (o .inputs) (leb-false _ _ e) (f .single)
+  module _ (i : ℕ) (arg : List ℕ) where
+    file-fits : o .names .count < rowOf (o .command) .most → Fitting (fileTaken o i arg)
+    unfolding fileTaken pick
+    file-fits p = go (isInput o arg) (leb 1 (o .inputs)) refl where
+      go : (s u : Bool) → leb 1 (o .inputs) ≡ u → Fitting (pick s (pick u (stopped o InputTwice i) (named o i (o .inputs + 1))) (named o i (o .inputs)))
+      go true true d = stopped-fits InputTwice i
+      go true false d = let l : o .inputs < 1 = leb-false 1 (o .inputs) d in named-more-fits i (o .inputs + 1) p (omega arith)
+      go false u d = named-more-fits i (o .inputs) p (f .single)
+
+    number-fits : o .names .count < rowOf (o .command) .most → Fitting (numberTaken o i arg)
+    unfolding numberTaken pick numbered named
+    number-fits p = go (isNumber arg) where
+      go : (t : Bool) → Fitting (pick t (numbered o i (value arg)) (stopped o NoNumber i))
+      go true = let n : Fitting (named o i (o .inputs)) = named-more-fits i (o .inputs) p (f .single) in record { few = n .few; single = n .single }
+      go false = stopped-fits NoNumber i
+
+    name-fits : Fitting (nameTaken o i arg)
+    unfolding nameTaken pick
+    name-fits = go (leb (rowOf (o .command) .most) (o .names .count)) (leb (rowOf (o .command) .files) (o .names .count)) refl where
+      go : (t s : Bool) → leb (rowOf (o .command) .most) (o .names .count) ≡ t → Fitting (pick t (stopped o TooMany i) (pick s (numberTaken o i arg) (fileTaken o i arg)))
+      go true s e = stopped-fits TooMany i
+      go false true e = number-fits (leb-false _ _ e)
+      go false false e = file-fits (leb-false _ _ e)
 
   as-fits : (i : ℕ) (a : Argument) (arg : List ℕ) → Fitting (takenAs o i a arg)
   unfolding takenAs takenPlain

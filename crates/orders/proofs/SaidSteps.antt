@@ -14,7 +14,7 @@ use Rattle.ascii.specs.Text.{bytesOf}
 use Rattle.ascii.specs.Words.{space, newline}
 use Rattle.ascii.specs.Laying.{Laid}
 use Rattle.ascii.proofs.LayLaws.{laid-join, laid-nothing}
-use Rattle.orders.specs.declared.Usage.the-variants.{Right, Wished, NoCommand, NoOption, TooFew, TooMany, InputTwice}
+use Rattle.orders.specs.declared.Usage.the-variants.{Right, Wished, NoCommand, NoOption, TooFew, TooMany, NoNumber, InputTwice}
 use Rattle.orders.specs.declared.Order.{Order}
 use Rattle.menu.specs.declared.table.Marks.{Marks}
 use Rattle.menu.specs.Table.{Row, rowOf, nameWidth}
@@ -91,12 +91,17 @@ module _ (o n arg : List ℕ) (ord : Order) (r : ℕ) where
   unfolding misuseLine misuseOf
   said-many e p = rw e p
 
+  pub said-no-number : ord .usage ≡ NoNumber → Laid o 0 (faultUsage arg (bytesOf ": not a whole number of 1 to 10 digits\n") (rowOf (ord .command))) n r
+      → Laid o 0 (misuseLine ord arg) n r
+  unfolding misuseLine misuseOf
+  said-no-number e p = rw e p
+
   pub said-twice : ord .usage ≡ InputTwice → Laid o 0 (faultUsage dash (bytesOf ": standard input can't be read twice\n") (rowOf (ord .command))) n r
       → Laid o 0 (misuseLine ord arg) n r
   unfolding misuseLine misuseOf
   said-twice e p = rw e p
 
-pub ruleset misused = (said-right, said-wished, said-no-command, said-no-option, said-few, said-many, said-twice, needs)
+pub ruleset misused = (said-right, said-wished, said-no-command, said-no-option, said-few, said-many, said-no-number, said-twice, needs)
 
 -- ---- a byte and a name as they are shown
 

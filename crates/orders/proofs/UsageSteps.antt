@@ -9,20 +9,24 @@ use borrow.Author.Tests.{eq-eqb, ne-eqb, le-leb, lt-leb, lt-ltb, le-ltb}
 use borrow.Author.Needs.{needs}
 use Rattle.base.specs.Tests.{pick}
 use Rattle.base.proofs.TestLaws.{pick-true, pick-false, every-pass, every-stop, every-last, told-true, told-false}
+use Rattle.ascii.specs.declared.Number.{Number}
+use Rattle.ascii.specs.declared.Number.the-variants as number
+use Rattle.ascii.specs.Numbers.{numberOf}
 use Rattle.ascii.specs.Text.{bytesOf}
 use Rattle.ascii.specs.Words.{begins, same}
+use Rattle.ascii.proofs.NumberSteps.{told-number, told-value, told-none}
 use Rattle.menu.specs.declared.Command.{Command}
 use Rattle.menu.specs.declared.Command.the-variants.{Help}
 use Rattle.orders.specs.declared.Argument.{Argument}
 use Rattle.orders.specs.declared.Argument.the-variants.{Name, Plain, Wish, Dashed}
 use Rattle.orders.specs.declared.Usage.{Usage}
-use Rattle.orders.specs.declared.Usage.the-variants.{Right, Wished, NoCommand, NoOption, TooFew, TooMany, InputTwice}
+use Rattle.orders.specs.declared.Usage.the-variants.{Right, Wished, NoCommand, NoOption, TooFew, TooMany, NoNumber, InputTwice}
 use Rattle.orders.specs.declared.Names.{Names}
 use Rattle.orders.specs.declared.Order.{Order}
 use Rattle.menu.specs.declared.table.Lookup.{Lookup}
 use Rattle.menu.specs.declared.table.Lookup.the-variants.{Known, Unknown}
 use Rattle.menu.specs.Table.{rowOf, commandNamed}
-use Rattle.orders.specs.Usage.{dash, argumentOf, isName, nameMore, fresh, stopped, isRight, begunNamed, begunAs, begun, named, nameTaken, takenPlain, takenAs, taken, closed, isInput}
+use Rattle.orders.specs.Usage.{dash, argumentOf, isName, nameMore, fresh, stopped, isRight, begunNamed, begunAs, begun, named, numbered, fileTaken, numberTaken, nameTaken, takenPlain, takenAs, taken, closed, isInput}
 
 -- ---- what an argument is
 
@@ -83,11 +87,16 @@ module _ (n : Names) (i : ℕ) where
   more-later z o = pick-false _ _ _ _ (ne-eqb (n .count) 0 z) (pick-false _ _ _ _ (ne-eqb (n .count) 1 o) refl)
 
 pub named-more : (o : Order) (n : Names) (i inputs : ℕ) → n ≡ nameMore (o .names) i
-    → record { command = o .command; names = n; inputs = inputs; plain = o .plain; usage = o .usage; at = o .at } ≡ named o i inputs
+    → record { command = o .command; names = n; inputs = inputs; number = o .number; plain = o .plain; usage = o .usage; at = o .at } ≡ named o i inputs
 unfolding named
 named-more o n i inputs e = rw e
 
-pub ruleset adding = (more-first, more-second, more-later, named-more, needs)
+pub numbered-more : (o : Order) (n : Names) (i number : ℕ) → n ≡ nameMore (o .names) i
+    → record { command = o .command; names = n; inputs = o .inputs; number = number; plain = o .plain; usage = o .usage; at = o .at } ≡ numbered o i number
+unfolding numbered
+numbered-more o n i number e = rw e
+
+pub ruleset adding = (more-first, more-second, more-later, named-more, numbered-more, needs)
 
 -- ---- the first argument
 
@@ -135,26 +144,48 @@ module _ (o : Order) (arg : List ℕ) (t : Bool) (et : t ≡ same dash arg) wher
 
 pub ruleset dashed = (input-other, input-read, needs)
 
-module _ (o : Order) (i : ℕ) (arg : List ℕ) (r : Order) (most : ℕ) (em : most ≡ rowOf (o .command) .most) where
-  pub name-many : most ≤ o .names .count → r ≡ stopped o TooMany i → r ≡ nameTaken o i arg
-  unfolding nameTaken
-  name-many p e = pick-true _ _ _ _ (rw (← em) (le-leb most (o .names .count) p)) e
+module _ (o : Order) (i : ℕ) (arg : List ℕ) (r : Order) where
+  module _ (t : Bool) (et : t ≡ isInput o arg) where
+    pub file-twice : t ≡ true → 1 ≤ o .inputs → r ≡ stopped o InputTwice i → r ≡ fileTaken o i arg
+    unfolding fileTaken
+    file-twice p q e = pick-true _ _ _ _ (sym et ∙ p) (pick-true _ _ _ _ (le-leb 1 (o .inputs) q) e)
 
-  module _ (few : o .names .count < most) (t : Bool) (et : t ≡ isInput o arg) where
-    counts : r ≡ pick (isInput o arg) (pick (leb 1 (o .inputs)) (stopped o InputTwice i) (named o i (o .inputs + 1))) (named o i (o .inputs)) → r ≡ nameTaken o i arg
+    pub file-input : t ≡ true → o .inputs < 1 → r ≡ named o i (o .inputs + 1) → r ≡ fileTaken o i arg
+    unfolding fileTaken
+    file-input p q e = pick-true _ _ _ _ (sym et ∙ p) (pick-false _ _ _ _ (lt-leb 1 (o .inputs) q) e)
+
+    pub file-other : t ≡ false → r ≡ named o i (o .inputs) → r ≡ fileTaken o i arg
+    unfolding fileTaken
+    file-other p e = pick-false _ _ _ _ (sym et ∙ p) e
+
+  module _ (v : Number) (ev : v ≡ numberOf arg) where
+    pub number-none : v ≡ number.Unreadable → r ≡ stopped o NoNumber i → r ≡ numberTaken o i arg
+    unfolding numberTaken
+    number-none p e = pick-false _ _ _ _ (told-none arg v ev p) e
+
+    pub number-read : (n : ℕ) → v ≡ number.Read n → r ≡ numbered o i n → r ≡ numberTaken o i arg
+    unfolding numberTaken
+    number-read n p e = pick-true _ _ _ _ (told-number arg v ev n p) (rw (told-value arg v ev n p) at e)
+
+  module _ (most : ℕ) (em : most ≡ rowOf (o .command) .most) where
+    pub name-many : most ≤ o .names .count → r ≡ stopped o TooMany i → r ≡ nameTaken o i arg
     unfolding nameTaken
-    counts e = pick-false _ _ _ _ (rw (← em) (lt-leb most (o .names .count) few)) e
+    name-many p e = pick-true _ _ _ _ (rw (← em) (le-leb most (o .names .count) p)) e
 
-    pub name-twice : t ≡ true → 1 ≤ o .inputs → r ≡ stopped o InputTwice i → r ≡ nameTaken o i arg
-    name-twice p q e = counts (pick-true _ _ _ _ (sym et ∙ p) (pick-true _ _ _ _ (le-leb 1 (o .inputs) q) e))
+    module _ (few : o .names .count < most) (files : ℕ) (ef : files ≡ rowOf (o .command) .files) where
+      pub name-number : files ≤ o .names .count → r ≡ numberTaken o i arg → r ≡ nameTaken o i arg
+      unfolding nameTaken
+      name-number p e = pick-false _ _ _ _ (rw (← em) (lt-leb most (o .names .count) few)) (pick-true _ _ _ _ (rw (← ef) (le-leb files (o .names .count) p)) e)
 
-    pub name-input : t ≡ true → o .inputs < 1 → r ≡ named o i (o .inputs + 1) → r ≡ nameTaken o i arg
-    name-input p q e = counts (pick-true _ _ _ _ (sym et ∙ p) (pick-false _ _ _ _ (lt-leb 1 (o .inputs) q) e))
+      pub name-file : o .names .count < files → r ≡ fileTaken o i arg → r ≡ nameTaken o i arg
+      unfolding nameTaken
+      name-file p e = pick-false _ _ _ _ (rw (← em) (lt-leb most (o .names .count) few)) (pick-false _ _ _ _ (rw (← ef) (lt-leb files (o .names .count) p)) e)
 
-    pub name-file : t ≡ false → r ≡ named o i (o .inputs) → r ≡ nameTaken o i arg
-    name-file p e = counts (pick-false _ _ _ _ (sym et ∙ p) e)
+pub ruleset filing = (file-twice, file-input, file-other, needs)
 
-pub ruleset counting = (name-many, name-twice, name-input, name-file, needs)
+pub ruleset figures = (number-none, number-read, needs)
+
+pub ruleset counting = (name-many, name-number, name-file, needs)
 
 module _ (o : Order) (i : ℕ) (a : Argument) (arg : List ℕ) (r : Order) where
   pub as-name : a ≡ Name → r ≡ nameTaken o i arg → r ≡ takenAs o i a arg

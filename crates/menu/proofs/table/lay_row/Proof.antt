@@ -12,7 +12,7 @@ returns c =
     let name = usage .before .before .before .before in
     let start = name .before .before .before .before .before .before in
     let asked = start .pre in
-    lay-row (start .args .least) (start .args .most) (start .args .reads) (asked .1) (asked .2) (asked .3)
+    lay-row (start .args .least) (start .args .most) (start .args .files) (start .args .reads) (asked .1) (asked .2) (asked .3)
     (name .put-bytes .ensures)
     (usage .put-bytes2 .ensures)
     (help .put-bytes3 .ensures)

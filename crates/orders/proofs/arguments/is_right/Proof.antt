@@ -23,4 +23,6 @@ is-right-spec =
     (λ c. search beginning)
     (λ c. search beginning)
     (λ c. search beginning)
+    (λ c. search beginning)
+    (λ c. search beginning)
     (λ c. search beginning))

@@ -1,4 +1,4 @@
--- How many names the command takes, and whether this one is standard input, decide.
+-- How many arguments the command takes, and how many of them are files, decide.
 -- Assumes nothing.
 use Rattle.orders.proofs.UsageSteps.{counting}
 use Rattle.orders.proofs.arguments.take_name.Statement.{statement}
@@ -12,9 +12,6 @@ take-name-spec =
     (λ c κs. search counting)
     (λ c. search counting)
     (λ c κs. search counting)
-    (λ c κs. search counting)
-    (λ c. search counting)
-    (λ c. search counting)
     (λ c κs. search counting)
     (λ c. search counting)
     (λ c κs. search counting)
