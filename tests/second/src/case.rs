@@ -1,6 +1,7 @@
-//! One seed's random case: a score file, or none, and commands.
+//! One seed's random case: a score file, or none, and commands; in the graced
+//! cases a grace too.
 
-use crate::play::play;
+use crate::play::{number, play};
 use crate::random::Random;
 use crate::{commands, damage, scores};
 use std::fs;
@@ -9,6 +10,7 @@ use std::path::Path;
 
 pub const SCORE: &str = "score.bin";
 pub const COMMANDS: &str = "commands";
+pub const GRACE: &str = "grace";
 
 pub enum ScoreFile {
     Bytes(Vec<u8>),
@@ -20,6 +22,8 @@ pub enum ScoreFile {
 pub struct Case {
     pub score: ScoreFile,
     pub commands: Vec<u8>,
+    /// As it is written on the command line, where the program gets one.
+    pub grace: Option<String>,
 }
 
 impl Case {
@@ -34,21 +38,40 @@ impl Case {
             17..=22 => ScoreFile::Bytes(damage::fine(random, invented.tables)),
             _ => ScoreFile::Bytes(invented.tables.encode()),
         };
-        Case { score, commands }
+        Case {
+            score,
+            commands,
+            grace: None,
+        }
+    }
+
+    /// The grace that the session is opened with.
+    pub fn grace(&self) -> u64 {
+        let written = self.grace.as_ref();
+        written
+            .and_then(|grace| number(grace.as_bytes()))
+            .unwrap_or(0)
     }
 
     /// What `play` must write.
     pub fn expected(&self) -> Vec<u8> {
-        let file = match &self.score {
-            ScoreFile::Bytes(bytes) => bytes,
-            ScoreFile::Missing | ScoreFile::Folder => &Vec::new(),
-        };
-        play(file, &self.commands)
+        play(self.file(), &self.commands, self.grace())
     }
 
-    /// Writes both files into a folder that is there.
+    /// The score file's bytes, as they are read.
+    pub fn file(&self) -> &[u8] {
+        match &self.score {
+            ScoreFile::Bytes(bytes) => bytes,
+            ScoreFile::Missing | ScoreFile::Folder => &[],
+        }
+    }
+
+    /// Writes the files into a folder that is there.
     pub fn write(&self, folder: &Path) -> io::Result<()> {
         self.write_score(folder)?;
+        if let Some(grace) = &self.grace {
+            fs::write(folder.join(GRACE), grace)?;
+        }
         fs::write(folder.join(COMMANDS), &self.commands)
     }
 

@@ -14,7 +14,7 @@ pub fn invent(random: &mut Random, score: &Invented) -> Vec<u8> {
         random.between(120, 300)
     };
     let mut listener = Listener::new(random, score, count);
-    let mut lines = match listener.random.below(200) {
+    let lines = match listener.random.below(200) {
         0 => Vec::new(),
         1 => return Vec::new(),
         2..=3 => vec![listener.other_first_line()],
@@ -22,18 +22,23 @@ pub fn invent(random: &mut Random, score: &Invented) -> Vec<u8> {
         8..=10 => vec![listener.refused_opening()],
         _ => vec![listener.opening()],
     };
-    while (lines.len() as u64) < count {
-        let left = count - lines.len() as u64;
-        let line = listener.line(left);
-        lines.push(line);
-    }
-    let mut input = lines.join(&b'\n');
-    match random.below(20) {
-        0..=3 => {}
-        4 => input.extend_from_slice(b"\n\n"),
-        _ => input.push(b'\n'),
-    }
-    input
+    listener.input(lines, count)
+}
+
+/// Commands that hear these events, as far as the list goes, and no others. The
+/// opening may have a bad tempo.
+pub fn hearing(random: &mut Random, score: &Invented, events: Vec<u64>, bad: bool) -> Vec<u8> {
+    let count = random.between(20, 50) + 3 * events.len() as u64;
+    let mut listener = Listener {
+        planned: Some(events),
+        ..Listener::new(random, score, count)
+    };
+    let opening = if bad {
+        listener.refused_opening()
+    } else {
+        listener.opening()
+    };
+    listener.input(vec![opening], count)
 }
 
 struct Listener<'r> {
@@ -49,6 +54,8 @@ struct Listener<'r> {
     step: u64,
     odd_lines: u64,
     skips: u64,
+    /// The events to be heard, where that is settled beforehand.
+    planned: Option<Vec<u64>>,
 }
 
 impl<'r> Listener<'r> {
@@ -66,11 +73,28 @@ impl<'r> Listener<'r> {
             step: (1_000 * span / count).max(1),
             odd_lines: random.pick(&[0, 4, 8, 15]),
             skips: random.pick(&[5, 40, 60, 80]),
+            planned: None,
             random,
             score,
         };
         listener.tempo = listener.next_tempo();
         listener
+    }
+
+    /// These lines and more, up to `count`, as they are read.
+    fn input(&mut self, mut lines: Vec<Vec<u8>>, count: u64) -> Vec<u8> {
+        while (lines.len() as u64) < count {
+            let left = count - lines.len() as u64;
+            let line = self.line(left);
+            lines.push(line);
+        }
+        let mut input = lines.join(&b'\n');
+        match self.random.below(20) {
+            0..=3 => {}
+            4 => input.extend_from_slice(b"\n\n"),
+            _ => input.push(b'\n'),
+        }
+        input
     }
 
     fn line(&mut self, left: u64) -> Vec<u8> {
@@ -81,7 +105,7 @@ impl<'r> Listener<'r> {
                 self.unreadable()
             };
         }
-        let events_left = self.events - self.last;
+        let events_left = self.events_left();
         // Heard notes come rather in the list's front half, so that what they
         // set going falls due before its end.
         let chance = (250 * events_left / (left + 1)).clamp(4, 60);
@@ -129,7 +153,18 @@ impl<'r> Listener<'r> {
         self.words('H', &[event, tempo])
     }
 
+    fn events_left(&self) -> u64 {
+        match &self.planned {
+            Some(events) => events.iter().filter(|event| **event > self.last).count() as u64,
+            None => self.events - self.last,
+        }
+    }
+
     fn next_event(&mut self, left: u64) -> u64 {
+        if let Some(events) = &self.planned {
+            let next = events.iter().find(|event| **event > self.last);
+            return next.copied().unwrap_or(self.events);
+        }
         let events_left = self.events - self.last;
         let crowd = 2 * events_left / (left + 1);
         let mut skipped = self.random.between(0, crowd);

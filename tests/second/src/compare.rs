@@ -1,6 +1,6 @@
 //! Runs another program on random cases and compares what it writes.
 
-use crate::case::Case;
+use crate::case::{Case, SCORE};
 use crate::mutant;
 use std::collections::BTreeMap;
 use std::ffi::OsString;
@@ -17,6 +17,8 @@ use std::time::Duration;
 const PATIENCE: Duration = Duration::from_secs(60);
 
 pub struct Plan {
+    /// The case of a seed.
+    pub case: fn(u64) -> Case,
     pub runs: u64,
     pub seed: u64,
     pub threads: u64,
@@ -93,12 +95,12 @@ fn tell(plan: &Plan, results: &mpsc::Receiver<(u64, Result<(), String>)>) -> (u6
 }
 
 fn run(plan: &Plan, seed: u64) -> Result<(), String> {
-    let case = Case::of_seed(seed);
+    let case = (plan.case)(seed);
     let expected = case.expected();
     let folder = Folder::new(seed)?;
     case.write_score(&folder.0)
         .map_err(|error| error.to_string())?;
-    let (output, ending) = run_program(plan, &folder.0, &case.commands)?;
+    let (output, ending) = run_program(plan, &folder.0, &case)?;
     let result = judge(&expected, &output, ending);
     if let (Err(_), Some(keep)) = (&result, &plan.keep) {
         let kept = keep.join(format!("seed-{seed}"));
@@ -115,10 +117,11 @@ fn run(plan: &Plan, seed: u64) -> Result<(), String> {
 fn run_program(
     plan: &Plan,
     folder: &Path,
-    commands: &[u8],
+    case: &Case,
 ) -> Result<(Vec<u8>, Option<String>), String> {
     let mut child = Command::new(&plan.program[0])
         .args(&plan.program[1..])
+        .args(graced_arguments(case))
         .current_dir(folder)
         .env_remove(mutant::VARIABLE)
         .stdin(Stdio::piped())
@@ -134,7 +137,7 @@ fn run_program(
         scope.spawn(move || {
             if let Some(mut stdin) = stdin {
                 // A program may stop reading early; its output tells.
-                let _ = stdin.write_all(commands);
+                let _ = stdin.write_all(&case.commands);
             }
         });
         scope.spawn(move || {
@@ -157,6 +160,14 @@ fn run_program(
             }
         }
     })
+}
+
+/// What a program that takes a grace gets behind its own arguments.
+fn graced_arguments(case: &Case) -> Vec<&str> {
+    match &case.grace {
+        Some(grace) => vec![SCORE, "-", grace],
+        None => Vec::new(),
+    }
 }
 
 fn judge(expected: &[u8], output: &[u8], ending: Option<String>) -> Result<(), String> {

@@ -16,6 +16,9 @@ mod extended_refusals;
 mod extended_specials;
 mod extended_words;
 mod figures;
+mod graced_cases;
+mod graced_scores;
+mod graced_words;
 mod lines;
 mod mutant;
 mod noise;
@@ -46,9 +49,10 @@ use std::process::ExitCode;
 const USAGE: &str = "usage:
   second check FILE ..
   second reply FILE
-  second answer DIR
+  second answer DIR [GRACE]
+  second graced FILE COMMANDS GRACE
   second make SEED DIR
-  second compare --runs N --seed S [--threads T] [--keep DIR] -- CMD ARG..
+  second compare [--graces] --runs N --seed S [--threads T] [--keep DIR] -- CMD ARG..
   second files SEED COUNT OUT
   second scatter DIR SEED COUNT
   second noise SEED LINES
@@ -93,7 +97,9 @@ fn run(arguments: &[OsString]) -> Result<bool, Fault> {
     match (command.to_str().unwrap_or(""), rest) {
         ("check", files @ [_, ..]) => check(files),
         ("reply", [file]) => reply(Path::new(file)),
-        ("answer", [folder]) => answer(Path::new(folder)),
+        ("answer", [folder]) => answer(Path::new(folder), 0),
+        ("answer", [folder, grace]) => answer(Path::new(folder), self::grace(grace)?),
+        ("graced", [file, commands, grace]) => graced(file, commands, self::grace(grace)?),
         ("make", [seed, folder]) => make(number(seed)?, Path::new(folder)),
         ("compare", rest) => compare(rest),
         ("files", [seed, count, out]) => files(number(seed)?, number(count)?, Path::new(out)),
@@ -118,6 +124,11 @@ fn number(argument: &OsString) -> Result<u64, Fault> {
         .ok_or(Fault::Arguments)
 }
 
+/// A grace as the product takes it: a number as in the commands.
+fn grace(argument: &OsString) -> Result<u64, Fault> {
+    play::number(argument.as_encoded_bytes()).ok_or(Fault::Arguments)
+}
+
 fn tally((passed, failed): (u64, u64)) -> bool {
     println!("{passed} passed, {failed} failed");
     failed == 0
@@ -139,17 +150,37 @@ fn reply(file: &Path) -> Result<bool, Fault> {
     Ok(true)
 }
 
-fn answer(folder: &Path) -> Result<bool, Fault> {
+fn answer(folder: &Path, grace: u64) -> Result<bool, Fault> {
     let file = fs::read(folder.join(case::SCORE)).unwrap_or_default();
     let commands = folder.join(case::COMMANDS);
-    let mut input = Vec::new();
-    if commands.exists() {
-        input = fs::read(commands)?;
+    let input = if commands.exists() {
+        fs::read(commands)?
     } else {
-        io::stdin().read_to_end(&mut input)?;
-    }
-    io::stdout().write_all(&play::play(&file, &input))?;
+        standard_input()?
+    };
+    write_play(&file, &input, grace)
+}
+
+/// Takes the arguments that the product's `play` takes, to stand in for it.
+fn graced(file: &OsString, commands: &OsString, grace: u64) -> Result<bool, Fault> {
+    let file = fs::read(file)?;
+    let input = if commands == "-" {
+        standard_input()?
+    } else {
+        fs::read(commands)?
+    };
+    write_play(&file, &input, grace)
+}
+
+fn write_play(file: &[u8], input: &[u8], grace: u64) -> Result<bool, Fault> {
+    io::stdout().write_all(&play::play(file, input, grace))?;
     Ok(true)
+}
+
+fn standard_input() -> io::Result<Vec<u8>> {
+    let mut input = Vec::new();
+    io::stdin().read_to_end(&mut input)?;
+    Ok(input)
 }
 
 fn make(seed: u64, folder: &Path) -> Result<bool, Fault> {
@@ -224,10 +255,15 @@ fn scatter(folder: &Path, seed: u64, count: u64) -> Result<bool, Fault> {
 
 fn compare(arguments: &[OsString]) -> Result<bool, Fault> {
     let (mut runs, mut seed, mut threads, mut keep) = (None, None, 2, None);
+    let mut graces = false;
     let mut rest = arguments;
     let program = loop {
         match rest {
             [word, program @ ..] if word == "--" => break program,
+            [word, others @ ..] if word == "--graces" => {
+                graces = true;
+                rest = others;
+            }
             [word, value, others @ ..] => {
                 match word.to_str() {
                     Some("--runs") => runs = Some(number(value)?),
@@ -250,14 +286,21 @@ fn compare(arguments: &[OsString]) -> Result<bool, Fault> {
     let words: Vec<_> = program.iter().map(|word| word.to_string_lossy()).collect();
     println!("seeds {seed} to {}", seed.wrapping_add(runs - 1));
     println!(
-        "one seed alone: second compare --runs 1 --seed SEED -- {}",
+        "one seed alone: second compare {}--runs 1 --seed SEED -- {}",
+        if graces { "--graces " } else { "" },
         words.join(" ")
     );
     match mutant::from_environment() {
         Ok(0) | Err(_) => {}
         Ok(number) => println!("expected by wrong rule {number}"),
     }
+    let case = if graces {
+        graced_cases::of_seed
+    } else {
+        Case::of_seed
+    };
     Ok(tally(compare::compare(compare::Plan {
+        case,
         runs,
         seed,
         threads,

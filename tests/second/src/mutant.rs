@@ -4,7 +4,7 @@
 use std::sync::OnceLock;
 
 pub const VARIABLE: &str = "SECOND_MUTANT";
-pub const LAST: u32 = 38;
+pub const LAST: u32 = 46;
 
 pub const EXACTLY_E_J_IS_PAST: u32 = 1;
 pub const SLICE_FROM_THE_MISSED_EVENT: u32 = 2;
@@ -44,6 +44,14 @@ pub const DEPTH_NOT_COUNTED: u32 = 35;
 pub const PASSES_257_LET_IN: u32 = 36;
 pub const LIMITS_BEFORE_FAULTS: u32 = 37;
 pub const PAD_NOT_LOOKED_AT: u32 = 38;
+pub const EXACTLY_AT_THE_GRACE_IS_PAST: u32 = 39;
+pub const SLICES_FORGET_THE_GRACE: u32 = 40;
+pub const GROUPS_NOT_RAISED: u32 = 41;
+pub const DELAY_BELOW_ZERO_WRAPS: u32 = 42;
+pub const GRACE_ADDED_TO_E_J: u32 = 43;
+pub const GRACE_CHECKED_BEFORE_TEMPO: u32 = 44;
+pub const GRACE_631_LET_IN: u32 = 45;
+pub const RAISING_MOVES_WHAT_FOLLOWS: u32 = 46;
 
 /// The number in the environment, 0 without one; an unreadable one is an error
 /// so that a slip is never taken for a run without a mutant.

@@ -9,7 +9,7 @@ enum Command {
 }
 
 /// 1 to 10 digits; leading zeros are fine.
-fn number(word: &[u8]) -> Option<u64> {
+pub fn number(word: &[u8]) -> Option<u64> {
     if !(1..=10).contains(&word.len()) {
         return None;
     }
@@ -53,15 +53,21 @@ fn lines(input: &[u8]) -> Vec<&[u8]> {
     lines
 }
 
-/// All that `play` writes for this score file and this input.
-pub fn play(file: &[u8], input: &[u8]) -> Vec<u8> {
+/// All that `play` writes for this score file and this input, opened with this
+/// grace.
+pub fn play(file: &[u8], input: &[u8], grace: u64) -> Vec<u8> {
+    perform(file, input, grace).0
+}
+
+/// What is written, and the session that was opened, if one was.
+pub fn perform(file: &[u8], input: &[u8], grace: u64) -> (Vec<u8>, Option<Session>) {
     let mut output = Vec::new();
     let mut session: Option<Session> = None;
     for (index, line) in lines(input).into_iter().enumerate() {
         let place = index + 1;
         match (command(line), &mut session) {
             (Some(Command::Open { parts, tempo }), None) if place == 1 => {
-                match Session::open(file, parts, tempo) {
+                match Session::open(file, parts, tempo, grace) {
                     Ok(opened) => {
                         let count = opened.sounding_parts();
                         output.extend(format!("open 0 parts {count}\n").bytes());
@@ -91,7 +97,7 @@ pub fn play(file: &[u8], input: &[u8]) -> Vec<u8> {
         None => (0, 0),
     };
     output.extend(format!("end {clock} sent {sent}\n").bytes());
-    output
+    (output, session)
 }
 
 fn write_reply(output: &mut Vec<u8>, session: &Session, reply: Result<Vec<Sent>, u64>) {

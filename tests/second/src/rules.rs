@@ -13,7 +13,36 @@ pub struct Triple {
 }
 
 /// All triples of a score when the events of `heard` were heard.
-pub fn performance(score: &Score, heard: &[usize]) -> Vec<Triple> {
+pub fn performance(score: &Score, heard: &[usize], grace: u64) -> Vec<Triple> {
+    run(score, heard, grace).triples
+}
+
+/// An item as it was met where a group was split, to see what a case shows.
+#[derive(Clone, Copy)]
+pub struct Met {
+    pub part: u64,
+    /// The group that was split, and whether it is a slice.
+    pub synchrony: Synchrony,
+    pub error: ErrorWord,
+    pub slice: bool,
+    pub j: usize,
+    /// How many events were missed in a row before j.
+    pub missed: usize,
+    /// Its date less E(j).
+    pub gap: i128,
+    /// Of a group, how far its body goes.
+    pub length: Option<i128>,
+    /// The group around it that was split last, and how many were.
+    pub within: Option<ErrorWord>,
+    pub deep: usize,
+}
+
+/// Every item of every group that is split in this performance.
+pub fn met(score: &Score, heard: &[usize], grace: u64) -> Vec<Met> {
+    run(score, heard, grace).met
+}
+
+fn run(score: &Score, heard: &[usize], grace: u64) -> Rules {
     let mut starts = Vec::new();
     let mut sum = 0;
     for duration in &score.durations {
@@ -23,19 +52,36 @@ pub fn performance(score: &Score, heard: &[usize]) -> Vec<Triple> {
     let mut rules = Rules {
         starts,
         heard: vec![false; score.durations.len()],
+        grace: i128::from(grace),
         triples: Vec::new(),
+        part: 0,
+        splitting: Vec::new(),
+        met: Vec::new(),
     };
     for &event in heard {
         rules.heard[event - 1] = true;
     }
     rules.whole(score);
-    rules.triples
+    rules
 }
 
 struct Rules {
     starts: Vec<i128>,
     heard: Vec<bool>,
+    grace: i128,
     triples: Vec<Triple>,
+    /// For what is met: the part, and the words of the groups whose past or
+    /// future is running.
+    part: u64,
+    splitting: Vec<ErrorWord>,
+    met: Vec<Met>,
+}
+
+/// What a missed group is: one that is written, or a slice of a tight one.
+#[derive(Clone, Copy, PartialEq)]
+enum Missed {
+    Written,
+    Slice,
 }
 
 /// The items of a sequence, each with its summed delay: an item's own delay
@@ -53,6 +99,18 @@ fn summed(items: &[Item], from: i128) -> Vec<(i128, &Item)> {
         }
     }
     placed
+}
+
+/// "A future item's delay is never below 0": its date is the later of its own and
+/// E(j); the gap is its own less E(j).
+fn raised(gap: i128, what: &What) -> i128 {
+    if mutant::is(mutant::GROUPS_NOT_RAISED) && matches!(what, What::Group(_)) {
+        return gap;
+    }
+    if mutant::is(mutant::DELAY_BELOW_ZERO_WRAPS) {
+        return gap.rem_euclid(1 << 64);
+    }
+    gap.max(0)
 }
 
 /// A sequence under the making, whose items are given by their summed delays.
@@ -100,6 +158,7 @@ impl Rules {
         let mut carried = (0, 0);
         for sequence in &score.sequences {
             let i = sequence.event;
+            self.part = sequence.part;
             // Each part begins its own sequence at the event.
             let mut from = 0;
             if mutant::is(mutant::PARTS_SHARE_A_SEQUENCE) {
@@ -117,7 +176,7 @@ impl Rules {
                     error: ErrorWord::Causal,
                     body: sequence.items.clone(),
                 };
-                self.missed_group(&group, i, from);
+                self.missed_group(&group, Missed::Written, i, from);
             } else {
                 self.missed_sequence(&sequence.items, i, from);
             }
@@ -129,14 +188,20 @@ impl Rules {
     fn heard_sequence(&mut self, items: &[Item], i: usize, d: i128) {
         for (d, item) in summed(items, d) {
             match &item.what {
-                What::Action(action) => self.triples.push(Triple {
-                    event: i,
-                    delay: d,
-                    action: *action,
-                }),
+                What::Action(action) => self.heard_action(action, i, d),
                 What::Group(group) => self.heard_group(group, i, d),
             }
         }
+    }
+
+    fn heard_action(&mut self, action: &Action, i: usize, d: i128) {
+        // Only a body that runs from before E(j) has a delay to be held at 0.
+        let held = mutant::is(mutant::GROUPS_NOT_RAISED);
+        self.triples.push(Triple {
+            event: i,
+            delay: if held { d.max(0) } else { d },
+            action: *action,
+        });
     }
 
     fn heard_group(&mut self, group: &Group, i: usize, d: i128) {
@@ -183,7 +248,7 @@ impl Rules {
                 self.heard_group(slice, j, 0);
             }
         } else {
-            self.missed_group(slice, k, 0);
+            self.missed_group(slice, Missed::Slice, k, 0);
         }
     }
 
@@ -193,7 +258,7 @@ impl Rules {
         for (d, item) in summed(items, d) {
             match &item.what {
                 What::Action(action) => self.missed_action(action, i, d),
-                What::Group(group) => self.missed_group(group, i, d),
+                What::Group(group) => self.missed_group(group, Missed::Written, i, d),
             }
         }
     }
@@ -208,7 +273,7 @@ impl Rules {
         });
     }
 
-    fn missed_group(&mut self, group: &Group, i: usize, d: i128) {
+    fn missed_group(&mut self, group: &Group, missed: Missed, i: usize, d: i128) {
         let Some(j) = self.next_heard(i) else { return };
         match group.error {
             ErrorWord::Local => {}
@@ -223,35 +288,66 @@ impl Rules {
                     self.heard_group(group, j, 0);
                 }
             }
-            ErrorWord::Causal => {
-                if mutant::is(mutant::CAUSAL_NOT_SPLIT) {
-                    self.missed_sequence(&group.body, i, d);
-                    return;
-                }
-                let (past, future) = self.split(group, i, d, j);
-                self.missed_sequence(&past, i, d);
-                self.heard_group(&future, j, 0);
+            ErrorWord::Causal if mutant::is(mutant::CAUSAL_NOT_SPLIT) => {
+                self.missed_sequence(&group.body, i, d);
             }
-            ErrorWord::Partial => {
-                let (past, future) = self.split(group, i, d, j);
-                self.missed_past_of_partial(&past, i, d);
+            ErrorWord::Causal | ErrorWord::Partial => {
+                let (past, future) = self.split(group, missed, i, d, j);
+                self.splitting.push(group.error);
+                if group.error == ErrorWord::Causal {
+                    self.missed_sequence(&past, i, d);
+                } else {
+                    self.missed_past_of_partial(&past, i, d);
+                }
                 self.heard_group(&future, j, 0);
+                self.splitting.pop();
             }
         }
     }
 
-    /// The items that start before E(j), at their own delays, and the others as
-    /// a group of the same words, to be heard at j: their dates less E(j).
-    fn split(&self, group: &Group, i: usize, d: i128, j: usize) -> (Vec<Item>, Group) {
+    /// "An item is past exactly if its date plus g is before E(j)"; the gap is
+    /// its date less E(j).
+    fn is_past(&self, gap: i128, missed: Missed) -> bool {
+        if mutant::is(mutant::EXACTLY_E_J_IS_PAST) && gap == 0 {
+            return true;
+        }
+        if mutant::is(mutant::EXACTLY_AT_THE_GRACE_IS_PAST) {
+            return gap + self.grace <= 0;
+        }
+        if mutant::is(mutant::GRACE_ADDED_TO_E_J) {
+            return gap < self.grace;
+        }
+        if mutant::is(mutant::SLICES_FORGET_THE_GRACE) && missed == Missed::Slice {
+            return gap < 0;
+        }
+        gap + self.grace < 0
+    }
+
+    /// The past items, at their own delays, and the others as a group of the same
+    /// words, to be heard at j: their dates less E(j), each raised by itself.
+    fn split(
+        &mut self,
+        group: &Group,
+        missed: Missed,
+        i: usize,
+        d: i128,
+        j: usize,
+    ) -> (Vec<Item>, Group) {
         let mut past = Vec::new();
         let mut future = Building::default();
+        // What follows a raised item keeps its date; only a wrong rule moves it.
+        let mut moved = 0;
         for (delay, item) in summed(&group.body, d) {
-            let t = self.start(i) + delay;
-            let exactly = t == self.start(j) && mutant::is(mutant::EXACTLY_E_J_IS_PAST);
-            if t < self.start(j) || exactly {
+            let gap = self.start(i) + delay - self.start(j);
+            self.meet(group, missed, j, gap, item);
+            if self.is_past(gap, missed) {
                 past.push(item.clone());
-            } else {
-                future.put(t - self.start(j), &item.what);
+                continue;
+            }
+            let gap = gap + moved;
+            future.put(raised(gap, &item.what), &item.what);
+            if mutant::is(mutant::RAISING_MOVES_WHAT_FOLLOWS) {
+                moved += (-gap).max(0);
             }
         }
         let synchrony = if mutant::is(mutant::FUTURE_BECOMES_LOOSE) {
@@ -265,6 +361,26 @@ impl Rules {
             body: future.items,
         };
         (past, future)
+    }
+
+    fn meet(&mut self, group: &Group, missed: Missed, j: usize, gap: i128, item: &Item) {
+        let before = self.heard[..j - 1].iter().rev();
+        let length = match &item.what {
+            What::Action(_) => None,
+            What::Group(inner) => Some(inner.body.iter().map(|item| item.delay).sum()),
+        };
+        self.met.push(Met {
+            part: self.part,
+            synchrony: group.synchrony,
+            error: group.error,
+            slice: missed == Missed::Slice,
+            j,
+            missed: before.take_while(|heard| !**heard).count(),
+            gap,
+            length,
+            within: self.splitting.last().copied(),
+            deep: self.splitting.len(),
+        });
     }
 
     /// Past actions are dropped, past groups run as missed at their own dates.
@@ -282,7 +398,7 @@ impl Rules {
                 }
                 What::Group(group) => {
                     if !mutant::is(mutant::PARTIAL_DROPS_PAST_GROUPS) {
-                        self.missed_group(group, i, d - dropped);
+                        self.missed_group(group, Missed::Written, i, d - dropped);
                     }
                 }
             }

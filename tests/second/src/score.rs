@@ -42,6 +42,14 @@ pub struct Entry {
     pub last: u16,
 }
 
+// The two words of a group, as its entry has them.
+pub const LOOSE: u8 = 0;
+pub const TIGHT: u8 = 1;
+pub const LOCAL: u8 = 0;
+pub const GLOBAL: u8 = 1;
+pub const PARTIAL: u8 = 2;
+pub const CAUSAL: u8 = 3;
+
 impl Tables {
     /// Adds a message whose label follows the text so far.
     pub fn add_message(&mut self, label: &[u8]) {

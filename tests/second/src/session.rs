@@ -2,11 +2,12 @@
 //! sends are worked out from the whole history each time.
 
 use crate::mutant;
-use crate::rules::{performance, Triple};
+use crate::rules::{met, performance, Met, Triple};
 use crate::score::{self, Refusal, Score};
 
 pub const FASTEST: u64 = 50_400;
 pub const LONGEST_WAIT: u64 = 1_000;
+pub const MOST_GRACE: u64 = 630;
 pub const CLOCK_END: i128 = 1_000_000_000_000_000;
 
 /// One granted call: the event it heard, if any, and tempo and clock after it.
@@ -35,6 +36,7 @@ pub struct Report {
 pub struct Session {
     pub score: Score,
     parts: u64,
+    grace: u64,
     calls: Vec<Call>,
 }
 
@@ -42,14 +44,26 @@ fn is_tempo(tempo: u64) -> bool {
     (1..=FASTEST).contains(&tempo)
 }
 
+fn is_grace(grace: u64) -> bool {
+    let one_more = mutant::is(mutant::GRACE_631_LET_IN);
+    grace <= MOST_GRACE + u64::from(one_more)
+}
+
+/// What is wrong with an opening whose file is right: 9, then 19.
+fn opening_fault(tempo: u64, grace: u64) -> Option<u64> {
+    let mut checks = [(9, is_tempo(tempo)), (19, is_grace(grace))];
+    if mutant::is(mutant::GRACE_CHECKED_BEFORE_TEMPO) {
+        checks.reverse();
+    }
+    let (number, _) = checks.into_iter().find(|(_, right)| !right)?;
+    Some(number)
+}
+
 impl Session {
-    pub fn open(file: &[u8], parts: u64, tempo: u64) -> Result<Session, Refusal> {
+    pub fn open(file: &[u8], parts: u64, tempo: u64, grace: u64) -> Result<Session, Refusal> {
         let score = score::read(file)?;
-        if !is_tempo(tempo) {
-            return Err(Refusal {
-                number: 9,
-                place: 0,
-            });
+        if let Some(number) = opening_fault(tempo, grace) {
+            return Err(Refusal { number, place: 0 });
         }
         let opening = Call {
             heard: None,
@@ -59,6 +73,7 @@ impl Session {
         Ok(Session {
             score,
             parts,
+            grace,
             calls: vec![opening],
         })
     }
@@ -78,6 +93,17 @@ impl Session {
 
     fn heard(&self) -> Vec<usize> {
         self.calls.iter().filter_map(|call| call.heard).collect()
+    }
+
+    fn triples(&self) -> Vec<Triple> {
+        performance(&self.score, &self.heard(), self.grace)
+    }
+
+    /// What was met in the sounding parts where groups were split.
+    pub fn met(&self) -> Vec<Met> {
+        let mut met = met(&self.score, &self.heard(), self.grace);
+        met.retain(|met| self.sounds(met.part));
+        met
     }
 
     pub fn heard_note(&mut self, event: u64, tempo: u64) -> Result<Vec<Sent>, u64> {
@@ -121,7 +147,8 @@ impl Session {
     }
 
     pub fn report(&self) -> Report {
-        let sent = performance(&self.score, &self.heard())
+        let sent = self
+            .triples()
             .iter()
             .filter(|triple| self.sounds(triple.action.part))
             .filter(|triple| self.sending(triple).is_some())
@@ -142,7 +169,7 @@ impl Session {
     fn sent_at_last_call(&self) -> Vec<Sent> {
         let last = self.calls.len() - 1;
         let mut sent = Vec::new();
-        for triple in performance(&self.score, &self.heard()) {
+        for triple in self.triples() {
             if !self.sounds(triple.action.part) {
                 continue;
             }

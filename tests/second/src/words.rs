@@ -1,23 +1,18 @@
 //! The paper's own small scores, with the values it gives written out by hand.
 
 use crate::extended_words::extended_words;
+use crate::graced_words::graced_words;
 use crate::lines::{line, reason, shown, verdict};
 use crate::odd::{self, What};
 use crate::play::play;
 use crate::rules::performance;
 use crate::scatter;
-use crate::score::{self, Entry, Tables};
+use crate::score::{self, Entry, Tables, CAUSAL, GLOBAL, LOCAL, LOOSE, PARTIAL, TIGHT};
 use crate::session::Session;
 use crate::text_words::text_words;
 use std::ffi::OsStr;
 use std::io;
 
-const LOOSE: u8 = 0;
-const TIGHT: u8 = 1;
-const LOCAL: u8 = 0;
-const GLOBAL: u8 = 1;
-const PARTIAL: u8 = 2;
-const CAUSAL: u8 = 3;
 const ANY: &[u8] = &[LOCAL, GLOBAL, PARTIAL, CAUSAL];
 
 /// Events of 2, 1 and 1 beats; under event 1 a group holding a after 1 beat and
@@ -56,13 +51,16 @@ fn held(synchrony: u8, error: u8, actions: &[(u32, u16)]) -> Tables {
     tables
 }
 
+/// A triple: event, delay and label.
+pub type Played = (usize, i128, &'static str);
+
 type Row = (
     &'static str,
     fn(u8, u8) -> Tables,
     u8,
     &'static [u8],
     &'static [usize],
-    &'static [(usize, i128, &'static str)],
+    &'static [Played],
 );
 
 const TABLE: &[Row] = &[
@@ -159,17 +157,14 @@ pub fn words() -> (u64, u64) {
     let mut tally = Tally::default();
     for (name, tables, synchrony, errors, heard, expected) in TABLE {
         for &error in *errors {
-            let triples = triples(&tables(*synchrony, error), heard);
-            let right = triples.is_some_and(|triples| {
-                let expected = expected.iter().map(|&(event, delay, label)| {
-                    let label = label.as_bytes().to_vec();
-                    (event, delay, label)
-                });
-                triples.into_iter().eq(expected)
-            });
+            let tables = tables(*synchrony, error);
             let synchrony = ["loose", "tight"][usize::from(*synchrony)];
             let error = ["local", "global", "partial", "causal"][usize::from(error)];
-            tally.note(&format!("{name} {synchrony} {error}"), right);
+            // Nothing in these scores stands within 630 grains before an event.
+            for (grace, with) in [(0, ""), (630, ", grace 630")] {
+                let right = plays(&tables, heard, grace, expected);
+                tally.note(&format!("{name} {synchrony} {error}{with}"), right);
+            }
         }
     }
     one_second(&mut tally);
@@ -182,24 +177,29 @@ pub fn words() -> (u64, u64) {
     odd_entries(&mut tally);
     text_words(&mut tally);
     extended_words(&mut tally);
+    graced_words(&mut tally);
     (tally.passed, tally.failed)
 }
 
-fn triples(tables: &Tables, heard: &[usize]) -> Option<Vec<(usize, i128, Vec<u8>)>> {
-    let score = score::read(&tables.encode()).ok()?;
-    let triples = performance(&score, heard);
-    let labelled = triples.into_iter().map(|triple| {
-        let label = score.labels[triple.action.message].clone();
+/// Are these the triples, in the order of the rules?
+pub fn plays(tables: &Tables, heard: &[usize], grace: u64, expected: &[Played]) -> bool {
+    let Ok(score) = score::read(&tables.encode()) else {
+        return false;
+    };
+    let triples = performance(&score, heard, grace);
+    let labelled = triples.iter().map(|triple| {
+        let label = &score.labels[triple.action.message][..];
         (triple.event, triple.delay, label)
     });
-    Some(labelled.collect())
+    let expected = expected.iter();
+    labelled.eq(expected.map(|&(event, delay, label)| (event, delay, label.as_bytes())))
 }
 
 /// P2 at tempo 5,040: after 999 ms nothing is sent; at 1,000 ms a is.
 fn one_second(tally: &mut Tally) {
     for &error in ANY {
         let file = a_and_b(TIGHT, error).encode();
-        let Ok(mut session) = Session::open(&file, 1, 5_040) else {
+        let Ok(mut session) = Session::open(&file, 1, 5_040, 0) else {
             tally.note("one second: opening", false);
             continue;
         };
@@ -225,7 +225,7 @@ fn one_second(tally: &mut Tally) {
 fn written_play(tally: &mut Tally) {
     let file = a_and_b(TIGHT, LOCAL).encode();
     let mut test = |name: &str, file: &[u8], input: &[u8], expected: &str| {
-        tally.note(name, play(file, input) == expected.as_bytes());
+        tally.note(name, play(file, input, 0) == expected.as_bytes());
     };
     test(
         "play: the example",
