@@ -7,6 +7,6 @@ use Rattle.chunks.specs.Reading.{Reading, lineRead}
 use Rattle.telling.specs.Openings.{tellsRefusal, openingRefused}
 use Rattle.telling.proofs.OpeningLaws.{refusal-told}
 
-pub read-told : (f : List ℕ) (r : Reading) → tellsRefusal (lineRead f r .output) ≡ openingRefused f (r .lines + 1) (r .stand) (r .kept)
+pub read-told : (f : List ℕ) (r : Reading) → tellsRefusal (lineRead f r .output) ≡ openingRefused f (r .grace) (r .lines + 1) (r .stand) (r .kept)
 unfolding lineRead
-read-told f r = refusal-told f (r .lines + 1) (r .stand) (r .kept)
+read-told f r = refusal-told f (r .grace) (r .lines + 1) (r .stand) (r .kept)

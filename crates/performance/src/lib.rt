@@ -52,12 +52,13 @@ fn finish(
     ending_after(refused)
 }
 
-// Plays the score's bytes by the commands that come from the descriptor `input`. People are told of a refused score as `score`, of a refused tempo as `first`, and of an input that can't be read as `commands`.
+// Plays the score's bytes by the commands that come from the descriptor `input`, with this grace. People are told of a refused score as `score`, of a refused tempo as `first`, and of an input that can't be read as `commands`.
 pub fn perform(
     file: &[u8],
     score: &[u8],
     first: &[u8],
     commands: &[u8],
+    grace: u64,
     input: i32,
     mem: &mut [u64],
     room: &mut [u64],
@@ -71,6 +72,7 @@ pub fn perform(
         score,
         first,
         commands,
+        grace,
         input,
         mem,
         room,

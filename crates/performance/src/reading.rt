@@ -180,6 +180,7 @@ pub fn read_lines(
     score: &[u8],
     first: &[u8],
     commands: &[u8],
+    grace: u64,
     input: i32,
     mem: &mut [u64],
     room: &mut [u64],
@@ -198,6 +199,7 @@ pub fn read_lines(
         progress: Progress {
             lines: 0,
             have: 0,
+            grace,
             opened: false,
         },
         refused: false,

@@ -7,6 +7,9 @@ use streams::Ending;
 // More than any score has, so that a longer file is refused for its length.
 const FILE_ROOM: usize = 65536;
 
+// "`play` opens with grace 0."
+const NO_GRACE: u64 = 0;
+
 // Room for the line of a score file that can't be read.
 const LINE_ROOM: usize = 64;
 
@@ -39,6 +42,7 @@ fn main() {
         b"score.bin",
         b"line 1",
         b"standard input",
+        NO_GRACE,
         libc::STDIN_FILENO,
         &mut mem,
         &mut room,

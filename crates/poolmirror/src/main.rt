@@ -213,7 +213,14 @@ fn open_commands(name: &[u8]) -> i32 {
     os::open_read(name)
 }
 
-fn perform(file: &[u8], score: &[u8], list: &[u8], input: i32, first: &mut [u8]) -> Ending
+fn perform(
+    file: &[u8],
+    score: &[u8],
+    list: &[u8],
+    grace: u64,
+    input: i32,
+    first: &mut [u8],
+) -> Ending
     requires { ⌜ (length (now list) ≤ 4096) × (8192 ≤ length (now first)) ⌝ }
 {
     let mut mem = [0u64; MEMORY_SIZE];
@@ -226,6 +233,7 @@ fn perform(file: &[u8], score: &[u8], list: &[u8], input: i32, first: &mut [u8])
         score,
         &first[from..n],
         list,
+        grace,
         input,
         &mut mem,
         &mut room,
@@ -238,6 +246,7 @@ fn play_score(
     score: &mut [u8],
     n: usize,
     list: &[u8],
+    grace: u64,
     input: i32,
     file: &mut [u8],
     out: &mut [u8],
@@ -251,10 +260,17 @@ fn play_score(
         return unread(&score[from..named], read.error);
     }
     let size = read.count;
-    perform(&file[from..size], &score[from..named], list, input, out)
+    perform(
+        &file[from..size],
+        &score[from..named],
+        list,
+        grace,
+        input,
+        out,
+    )
 }
 
-// `play FILE COMMANDS`: the first name is the score's, the second the commands'. These are opened before the score is read, so that nothing is played where one of them can't be.
+// `play FILE COMMANDS [GRACE]`: the first name is the score's, the second the commands', and the number behind them is the grace, which is 0 where there is none. The commands are opened before the score is read, so that nothing is played where one of them can't be.
 fn play(o: Order, score: &mut [u8], list: &mut [u8], file: &mut [u8], out: &mut [u8]) -> Ending
     requires { ⌜ (length (now score) ≡ 4096) × (length (now list) ≡ 4096) × (8192 ≤ length (now out)) ⌝ }
 {
@@ -268,7 +284,15 @@ fn play(o: Order, score: &mut [u8], list: &mut [u8], file: &mut [u8], out: &mut 
     if input < 0 {
         return unread(&list[from..listed], error);
     }
-    play_score(score, n, &list[from..listed], input, file, out)
+    play_score(
+        score,
+        n,
+        &list[from..listed],
+        o.number,
+        input,
+        file,
+        out,
+    )
 }
 
 // ---- read, write and unfold
@@ -538,6 +562,7 @@ fn obey(o: Order, arg: &mut [u8], out: &mut [u8]) -> Ending
         Usage::NoOption => misused(o, arg, out),
         Usage::TooFew => misused(o, arg, out),
         Usage::TooMany => misused(o, arg, out),
+        Usage::NoNumber => misused(o, arg, out),
         Usage::InputTwice => misused(o, arg, out),
     }
 }

@@ -30,7 +30,7 @@ use Rattle.lines.specs.declared.Command.the-variants.{Open, Hear, Pass, Bad}
 use Rattle.lines.specs.Output.{wordLine, wordsLine, openLine, figure, messageLine}
 use Rattle.playing.specs.Printed.{Stand, sentLine, sentLines, sendingLines, carriedOpening, carriedSending, carriedBy, carried}
 use Rattle.playing.proofs.OpenSteps.{refusal-numbered}
-use Rattle.telling.specs.Openings.{tellsRefusal, refusedBy, openingRefused}
+use Rattle.telling.specs.Openings.{tellsRefusal, tellsGrace, refusedBy, openingRefused}
 
 -- ---- an opening's line
 
@@ -63,6 +63,32 @@ opening-told : (y : Opening) → tellsRefusal (openLine (openingReply y .number)
 unfolding tellsRefusal begins pick wordLine wordsLine decimal digitsOf openingReply
 opening-told (Opened n) = refl
 opening-told (notOpened x) = rw (number-told x 0, refusal-numbered x)
+
+-- It tells of the grace exactly where the number is the grace's.
+fault-graceless : (x : Fault) (c : ℕ) → tellsGrace (openLine (faultRow x .number) c) ≡ eqb (faultRow x .number) 19
+unfolding tellsGrace begins pick wordLine wordsLine decimal digitsOf faultRow
+fault-graceless FileShort c = refl
+fault-graceless (BadCount at) c = refl
+fault-graceless (BadOffset at) c = refl
+fault-graceless BadLength c = refl
+fault-graceless (BadEvent at) c = refl
+fault-graceless (BadItem at) c = refl
+fault-graceless (BadMessage at) c = refl
+fault-graceless TextLeft c = refl
+fault-graceless NoMessage c = refl
+
+pub grace-told : (x : Refusal) (c : ℕ) → tellsGrace (openLine (refusalRow x .number) c) ≡ eqb (refusalRow x .number) 19
+unfolding tellsGrace begins pick wordLine wordsLine decimal digitsOf refusalRow
+grace-told MemoryShort c = refl
+grace-told RoomShort c = refl
+grace-told (File x) c = fault-graceless x c
+grace-told BadTempo c = refl
+grace-told BadGrace c = refl
+grace-told NoSession c = refl
+grace-told NoEvent c = refl
+grace-told NotAfter c = refl
+grace-told BadMillis c = refl
+grace-told ClockFull c = refl
 
 -- ---- other lines
 

@@ -11,7 +11,7 @@ use Rattle.base.proofs.TestLaws.{told-true, told-false}
 use Rattle.ascii.specs.Text.{bytesOf}
 use Rattle.ascii.specs.Words.{begins, same}
 use Rattle.lines.specs.Words.{openWord}
-use Rattle.telling.specs.Openings.{grantedWord, tellsRefusal, tellsUnopened}
+use Rattle.telling.specs.Openings.{grantedWord, tellsRefusal, tellsGrace, tellsUnopened}
 
 -- ---- what was printed
 
@@ -24,11 +24,15 @@ module _ (bs : List ℕ) (t : Bool) (e : t ≡ begins grantedWord bs) where
   unfolding tellsRefusal pick
   tells-other u p q = rw (← e, p) q
 
+pub tells-grace : (bs : List ℕ) (t : Bool) → t ≡ begins (bytesOf "open 19 ") bs → t ≡ tellsGrace bs
+unfolding tellsGrace
+tells-grace bs t e = e
+
 pub tells-unopened : (bs : List ℕ) (t : Bool) → t ≡ same (bytesOf "bad 1\n") bs → t ≡ tellsUnopened bs
 unfolding tellsUnopened
 tells-unopened bs t e = e
 
-pub ruleset printing = (tells-granted, tells-other, tells-unopened, length-take-le, needs)
+pub ruleset printing = (tells-granted, tells-other, tells-grace, tells-unopened, length-take-le, needs)
 
 -- ---- after a line
 

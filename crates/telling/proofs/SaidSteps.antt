@@ -19,7 +19,7 @@ use Rattle.ascii.proofs.LayLaws.{laid-join}
 use Rattle.session.specs.declared.Refusal.{Refusal}
 use Rattle.refusals.specs.Line.{refusalLine, refusalRoom}
 use Rattle.reasons.specs.Reasons.{unreadLine, unwrittenLine, reasonLineRoom}
-use Rattle.telling.specs.Said.{mostName, saidRoom, toldName, ofFile, refusedName, refusedLine, unopenedLine}
+use Rattle.telling.specs.Said.{mostName, saidRoom, toldName, ofFile, ofGrace, graceName, refusedName, refusedLine, unopenedLine}
 
 -- ---- names
 
@@ -82,8 +82,13 @@ module _ (o m score first file : List ℕ) (r : ℕ) (t : Bool) (x : Refusal) (e
   unfolding refusedName pick
   refused-score p l = rw (← e, p) l
 
-  pub refused-first : t ≡ false → Laid o 0 (refusedLine first file x) m r → Laid o 0 (refusedLine (refusedName score first x) file x) m r
-  unfolding refusedName pick
-  refused-first p l = rw (← e, p) l
+  module _ (u : Bool) (d : u ≡ ofGrace x) (p : t ≡ false) where
+    pub refused-grace : u ≡ true → Laid o 0 (refusedLine graceName file x) m r → Laid o 0 (refusedLine (refusedName score first x) file x) m r
+    unfolding refusedName pick
+    refused-grace q l = rw (← e, p, ← d, q) l
 
-pub ruleset refusing = (refused-score, refused-first, needs)
+    pub refused-first : u ≡ false → Laid o 0 (refusedLine first file x) m r → Laid o 0 (refusedLine (refusedName score first x) file x) m r
+    unfolding refusedName pick
+    refused-first q l = rw (← e, p, ← d, q) l
+
+pub ruleset refusing = (refused-score, refused-grace, refused-first, needs)

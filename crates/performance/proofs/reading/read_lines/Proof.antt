@@ -11,12 +11,12 @@ use Rattle.performance.proofs.reading.read_lines.Statement.{statement}
 use Rattle.performance.proofs.reading.read_lines.Tie as tie
 
 abbrev Inv-loop : tie.InvT-loop
-Inv-loop file score first commands input mem₀ room₀ line₀ out₀ chunk₀ s₀ reads₀ mem room line out chunk s reads =
+Inv-loop file score first commands grace input mem₀ room₀ line₀ out₀ chunk₀ s₀ reads₀ mem room line out chunk s reads =
     (length mem ≡ length mem₀) × (length room ≡ length room₀) × (length line ≡ length line₀) × (length out ≡ length out₀) × (length chunk ≡ 4096)
     × (keptBytes ≤ length line) × (s .progress .have ≤ keptBytes) × (s .progress .lines ≤ 4096 * reads) × (reads ≤ 1000000000000000) × Asked file (s .progress .opened) out
 
 abbrev μ-loop : tie.MeasureT-loop
-μ-loop file score first commands input mem₀ room₀ line₀ out₀ chunk₀ s₀ reads₀ mem room line out chunk s reads = 1000000000000000 - reads
+μ-loop file score first commands grace input mem₀ room₀ line₀ out₀ chunk₀ s₀ reads₀ mem room line out chunk s reads = 1000000000000000 - reads
 
 returns : tie.Need-returns Inv-loop μ-loop
 returns c = search inputs

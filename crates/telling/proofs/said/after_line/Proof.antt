@@ -12,4 +12,5 @@ after-line-spec =
     (λ c κs. search after)
     (λ c. search after)
     (λ c κs. search after)
+    (λ c κs. search after)
     (λ c. search after))

@@ -1,4 +1,4 @@
--- Whether the refusal is for the file decides which name is told.
+-- Whether the refusal is for the file, or for the grace, decides which name is told.
 -- Assumes nothing.
 use Rattle.telling.proofs.SaidSteps.{refusing}
 use Rattle.telling.proofs.said.put_refusal.Statement.{statement}
@@ -9,6 +9,11 @@ put-refusal-spec =
     tie.close
     (tie.spec
     (λ c κs. search refusing)
+    (λ c κs. search refusing)
+    (λ c. search refusing)
+    (λ c. search refusing)
+    (λ c κs. search refusing)
+    (λ c. search refusing)
     (λ c κs. search refusing)
     (λ c. search refusing)
     (λ c. search refusing)
