@@ -48,7 +48,7 @@ fn tell_report(x: Report) -> Told {
 }
 
 fn open_score(mem: &mut [u64], file: &[u8]) -> Told {
-    let r = opening::opening_reply(opening::open_session(mem, file, ALL, FAST));
+    let r = opening::opening_reply(opening::open_session(mem, file, ALL, FAST, 0));
     Told {
         number: r.number,
         figure: r.parts as u64,

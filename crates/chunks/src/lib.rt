@@ -91,6 +91,15 @@ pub fn last_line(
         return 0;
     }
     let n = p.have;
-    let l = play_line(file, p.grace, mem, room, &line[..n], p.lines + 1, p.opened, out);
+    let l = play_line(
+        file,
+        p.grace,
+        mem,
+        room,
+        &line[..n],
+        p.lines + 1,
+        p.opened,
+        out,
+    );
     l.count
 }

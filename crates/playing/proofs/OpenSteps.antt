@@ -112,11 +112,11 @@ pub why-refused : (m f : List ℕ) (o : Terms) (x : Refusal) → memorySize ≤ 
 unfolding openingCheck whyRefused firstFault need renamed refusalRow pick
 why-refused m f o x l e =
     go (checked f) refl (between 1 mostTempo (o .tempo)) (leb (o .grace) mostGrace) (rw (le-leb memorySize (length m) l) at e) where
-  told : Refusal → Type 0
-  told y = whyRefused f (eqb (refusalRow y .number) 19) ≡ y
+      told : Refusal → Type 0
+      told y = whyRefused f (eqb (refusalRow y .number) 19) ≡ y
 
-  go : (c : Check Fault) → checked f ≡ c → (t g : Bool) → firstFault (renamed File c ∷ need t BadTempo ∷ need g BadGrace ∷ []) ≡ refused x → told x
-  go (refused y) p t g q = let z : File y ≡ x = cc in rw (p, whyRefused) z
-  go fine p true true q = let z : _≡_ {A = ℕ} 0 1 = cc in absurd (omega arith)
-  go fine p true false q = let z : BadGrace ≡ x = cc in subst told z (rw (p, whyRefused))
-  go fine p false g q = let z : BadTempo ≡ x = cc in subst told z (rw (p, whyRefused))
+      go : (c : Check Fault) → checked f ≡ c → (t g : Bool) → firstFault (renamed File c ∷ need t BadTempo ∷ need g BadGrace ∷ []) ≡ refused x → told x
+      go (refused y) p t g q = let z : File y ≡ x = cc in rw (p, whyRefused) z
+      go fine p true true q = let z : _≡_ {A = ℕ} 0 1 = cc in absurd (omega arith)
+      go fine p true false q = let z : BadGrace ≡ x = cc in subst told z (rw (p, whyRefused))
+      go fine p false g q = let z : BadTempo ≡ x = cc in subst told z (rw (p, whyRefused))

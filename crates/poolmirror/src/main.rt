@@ -284,15 +284,7 @@ fn play(o: Order, score: &mut [u8], list: &mut [u8], file: &mut [u8], out: &mut 
     if input < 0 {
         return unread(&list[from..listed], error);
     }
-    play_score(
-        score,
-        n,
-        &list[from..listed],
-        o.number,
-        input,
-        file,
-        out,
-    )
+    play_score(score, n, &list[from..listed], o.number, input, file, out)
 }
 
 // ---- read, write and unfold

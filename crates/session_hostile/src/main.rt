@@ -1,5 +1,5 @@
 // Calls on hostile memory, as the script in the file `stdin` has them; its head says what each command means. The file `stdout` says what is right; it is written by
-// hand from document 01 and docs/.
+// hand from documents 01 and 02, and docs/.
 ghost use Prim.Native.Nat.{_≤_, _<_};
 ghost use lib.ListN.{length};
 use reading::Numbers;
@@ -69,7 +69,7 @@ fn opened(mem: &mut Memory, room: &mut Room) {
     let file = p2();
     let from = 0;
     let size = 90;
-    opening::open_session(mem, &file[from..size], 1, 5040);
+    opening::open_session(mem, &file[from..size], 1, 5040, 0);
 }
 
 fn running(mem: &mut Memory, room: &mut Room) {
@@ -100,7 +100,7 @@ fn call(c: Case, k: u64, n: &Numbers, was: &Memory, mem: &mut [u64], had: &Room,
     let m = &mut mem[from..words];
     let r = &mut room[from..space];
     match k {
-        72 | 75 => show::open(was, m, n),
+        73 | 76 => show::open(was, m, n),
         82 => show::hear(was, m, had, r, n),
         91 => show::pass(was, m, had, r, n),
         100 => show::report(was, m),
@@ -167,7 +167,7 @@ fn act(script: &[u8], at: usize, end: usize, c: Case, mem: &mut Memory, room: &m
     if place == 0 {
         return begin(at + 5, end, MEMORY_SIZE as u64 + 8, ROOM_SIZE as u64 + 8);
     }
-    let mut n: Numbers = [0, 0, 90, 90, 0, 0, 0, 0];
+    let mut n: Numbers = [0, 0, 0, 90, 90, 0, 0, 0];
     let count = reading::read(line, behind, &mut n);
     let k = 10 * place + count;
     if k == 12 {

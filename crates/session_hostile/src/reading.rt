@@ -71,7 +71,7 @@ pub fn index(word: &[u8], words: &[u8]) -> u64
 fn term(word: &[u8]) -> u64 {
     let k = index(
         word,
-        b"MARK MARK_AT EVENT_COUNT_AT ITEM_COUNT_AT PARTS_AT STARTS_AT PAGE_AT CLOCK_AT TEMPO_AT LAST_AT TOTAL_AT SLOTS_AT OUTCOMES_AT MEMORY_SIZE ROOM_SIZE",
+        b"MARK MARK_AT EVENT_COUNT_AT ITEM_COUNT_AT PARTS_AT GRACE_AT STARTS_AT PAGE_AT CLOCK_AT TEMPO_AT LAST_AT TOTAL_AT SLOTS_AT OUTCOMES_AT MEMORY_SIZE ROOM_SIZE",
     );
     match k {
         0 => layout::MARK,
@@ -79,16 +79,17 @@ fn term(word: &[u8]) -> u64 {
         2 => layout::EVENT_COUNT_AT as u64,
         3 => layout::ITEM_COUNT_AT as u64,
         4 => layout::PARTS_AT as u64,
-        5 => layout::STARTS_AT as u64,
-        6 => layout::PAGE_AT as u64,
-        7 => layout::CLOCK_AT as u64,
-        8 => layout::TEMPO_AT as u64,
-        9 => layout::LAST_AT as u64,
-        10 => layout::TOTAL_AT as u64,
-        11 => layout::SLOTS_AT as u64,
-        12 => layout::OUTCOMES_AT as u64,
-        13 => layout::MEMORY_SIZE as u64,
-        14 => layout::ROOM_SIZE as u64,
+        5 => layout::GRACE_AT as u64,
+        6 => layout::STARTS_AT as u64,
+        7 => layout::PAGE_AT as u64,
+        8 => layout::CLOCK_AT as u64,
+        9 => layout::TEMPO_AT as u64,
+        10 => layout::LAST_AT as u64,
+        11 => layout::TOTAL_AT as u64,
+        12 => layout::SLOTS_AT as u64,
+        13 => layout::OUTCOMES_AT as u64,
+        14 => layout::MEMORY_SIZE as u64,
+        15 => layout::ROOM_SIZE as u64,
         _ => digits(word),
     }
 }

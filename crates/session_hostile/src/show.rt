@@ -13,7 +13,7 @@ fn number(n: u64) {
     io::print_decimal(1, n);
 }
 
-// A call, and its numbers: what an opening has besides two says which file it is.
+// A call, and its numbers: of an opening's the first two. Its grace and its file are for the case's name to say.
 pub fn head(word: &[u8], n: &Numbers, count: u64) {
     text(word);
     if 0 < count {
@@ -152,11 +152,11 @@ fn spoilt(at: u64, byte: u64) -> [u8; 96] {
 
 // On so many bytes of that file.
 pub fn open(was: &Memory, mem: &mut [u64], n: &Numbers) {
-    let file = spoilt(n[3], n[4]);
+    let file = spoilt(n[4], n[5]);
     let from = 0;
-    let end = least(n[2], 96);
+    let end = least(n[3], 96);
     let bits = least(n[0], 65535) as u16;
-    let r = opening::opening_reply(opening::open_session(mem, &file[from..end], bits, n[1]));
+    let r = opening::opening_reply(opening::open_session(mem, &file[from..end], bits, n[1], n[2]));
     reply(r.number, r.place, r.parts as u64);
     memory(was, mem);
     text(b"\n");

@@ -1,5 +1,5 @@
 // The small scores of data/scores, laid out as words and run through the evaluators: a line for each, with its triples. The file `stdout` says what is right,
-// worked by hand from document 01. A word of data/scores that can't be read is printed, and no `stdout` has it.
+// worked by hand from documents 01 and 02. A word of data/scores that can't be read is printed, and no `stdout` has it.
 use fates::Places;
 use fates::words;
 use page::Item;
@@ -10,7 +10,7 @@ ghost use lib.ListN.{length};
 const OUT: i32 = 1;
 
 // The words of a score: event k's start and what has become of it, at place k; the item at a page place, its outcome, and the outcome that was told last; how
-// many events and items it has, at most 16 of each.
+// many events and items it has, at most 16 of each; and its grace.
 const STARTS: usize = 0;
 
 const TAKEN: usize = 257;
@@ -25,7 +25,9 @@ const EVENTS: usize = 562;
 
 const SIZE: usize = 563;
 
-type Score = [u64; 564];
+const GRACE: usize = 564;
+
+type Score = [u64; 565];
 
 // What is read next: a line's first word, field 1 to 6 of an item with 16 times the fields before it, or one of these.
 const FIRST: u64 = 0;
@@ -37,6 +39,11 @@ const HEARD: u64 = 8;
 const NAME: u64 = 9;
 
 const COMMENT: u64 = 10;
+
+const PLUS: u64 = 11;
+
+// "a grace g, 0 to 630 grains"
+const MOST_GRACE: u64 = 630;
 
 // What stands for a word that can't be read. Numbers have at most six digits.
 const NONE: u64 = 1000000;
@@ -114,6 +121,7 @@ fn hear(score: &mut Score, k: usize) -> u64 {
         outcomes: OUTCOMES,
         events,
         size,
+        grace: Grains(score[GRACE] % (MOST_GRACE + 1)),
     };
     settle(score, k);
     evaluators::perform(score, t);
@@ -130,6 +138,12 @@ fn add_event(score: &mut Score, duration: u64) -> u64 {
     score[EVENTS] = k as u64 + 1;
     score[k + 2] = score[k + 1] % 1000000000 + duration % NONE;
     DURATION
+}
+
+// The grace, from here on.
+fn set_grace(score: &mut Score, grace: u64) -> u64 {
+    score[GRACE] = grace;
+    FIRST
 }
 
 // The item whose fields were joined.
@@ -187,6 +201,7 @@ fn worth(field: u64, first: u8, number: u64) -> u64 {
         3 => below(16, number),
         6 => last(first, number),
         4 | DURATION => number,
+        PLUS => below(MOST_GRACE + 1, number),
         _ => below(17, number),
     }
 }
@@ -211,6 +226,7 @@ fn read_field(score: &mut Score, field: u64, before: u64, x: u64) -> u64 {
     match field {
         DURATION => add_event(score, x),
         HEARD => hear(score, x as usize),
+        PLUS => set_grace(score, x),
         6 => add_item(score, joined(before, field, x)),
         _ => 16 * joined(before, field, x) + (field % 16 + 1),
     }
@@ -223,7 +239,7 @@ fn begin_score(score: &mut Score, name: &[u8]) -> u64 {
         tell_all(score, size, 0);
         io::write_all(OUT, b"\n");
     }
-    *score = [0; 564];
+    *score = [0; 565];
     io::write_all(OUT, name);
     FIRST
 }
@@ -232,7 +248,7 @@ fn begin_score(score: &mut Score, name: &[u8]) -> u64 {
 fn read_word(score: &mut Score, next: u64, word: &[u8], first: u8, number: u64) -> u64 {
     let field = next % 16;
     if field == FIRST {
-        return find(b" g a   ehs#", first);
+        return find(b" g a   ehs#p", first);
     }
     if field == NAME {
         return begin_score(score, word);
@@ -296,7 +312,7 @@ fn read_scores(score: &mut Score, file: &[u8]) {
 
 fn main() {
     let mut file = io::large_buffer();
-    let mut score = [0u64; 564];
+    let mut score = [0u64; 565];
     let n = io::read_full(os::open_read(b"scores"), &mut file);
     read_scores(&mut score, &file[..n]);
 }
