@@ -37,6 +37,15 @@ module _ (R : Reading) (j : ℕ) where
   unfolding past
   past-before-limit t e = lt-ltb (t + R .grace) (R .start j) (omega arith)
 
+  -- Where E(j) is no later than the grace, nothing is past; nor is what starts at E(j) or later, whatever the grace.
+  pub none-past : (t : ℕ) → R .start j ≤ R .grace → past R j t ≡ false
+  unfolding past
+  none-past t l = le-ltb (t + R .grace) (R .start j) (omega arith)
+
+  pub late-future : (t : ℕ) → R .start j ≤ t → past R j t ≡ false
+  unfolding past
+  late-future t l = le-ltb (t + R .grace) (R .start j) (omega arith)
+
   -- Before E(j) an item is dated E(j), from there on by its own date.
   pub future-raised : (t : ℕ) → t ≤ R .start j → futureDate R j t ≡ R .start j
   unfolding futureDate

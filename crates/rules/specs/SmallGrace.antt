@@ -103,6 +103,11 @@ small-graces =
     ∷ itemOf 0 0 0 1 1261 0 c
     ∷ [])
     (2 ∷ []) (cue 1 0 a (played 2 0) ∷ cue 3 1 b dropped ∷ cue 4 1 c (played 2 630) ∷ [])
+    -- G26: more grace can lose a cue. With 629 the tight partial group at 9450 is past in the causal one, and runs as missed by its own words: a at 9450 + 5040 = 14490 is
+    -- future, so heard at 2, and goes there: 4410.
+    ∷ under 629 four (group 0 loose causal (group 9450 tight partial (action 5040 a 2 end) end) end) (2 ∷ 4 ∷ []) (triple 2 4410 a ∷ [])
+    -- G27: with 630 the group is future and starts at E(2): a at 10080 + 5040 = 15120 = E(3) goes to 3, missed, M(3) = 4; 15120 + 630 is before E(4) = 20160: past, dropped.
+    ∷ under 630 four (group 0 loose causal (group 9450 tight partial (action 5040 a 2 end) end) end) (2 ∷ 4 ∷ []) []
     ∷ []
 
 -- What the rules give, and what a row wants of them.
@@ -114,7 +119,7 @@ unfoldable pub graceWants : Graced → Result
 graceWants (under g ds x D l) = of-sequence l []
 graceWants (page g ds is D l) = of-page l
 
--- G1 to G25.
+-- G1 to G27.
 pub small-graces-right : map graceGives small-graces ≡ map graceWants small-graces
 unfolding graceGives graceWants resultOf ifUndecided undecidedIn triples keep perform topHolder run enter outcomeOf fateOf heardFate slicedFate missedFate globalStart past futureDate readingOf taken lastBy more E total pick cues cast entries entriesOf runLength goesOn sequenceOf synchronyOf errorOf
 small-graces-right = refl
