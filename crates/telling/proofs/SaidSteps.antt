@@ -18,8 +18,9 @@ use Rattle.ascii.specs.Text.{bytesOf}
 use Rattle.ascii.proofs.LayLaws.{laid-join}
 use Rattle.session.specs.declared.Refusal.{Refusal}
 use Rattle.refusals.specs.Line.{refusalLine, refusalRoom}
+use Rattle.telling.specs.declared.said.Blame.{Blame}
 use Rattle.reasons.specs.Reasons.{unreadLine, unwrittenLine, reasonLineRoom}
-use Rattle.telling.specs.Said.{mostName, saidRoom, toldName, ofFile, ofGrace, graceName, refusedName, refusedLine, unopenedLine}
+use Rattle.telling.specs.Said.{mostName, saidRoom, toldName, blamed, refusedName, refusedLine, unopenedLine}
 
 -- ---- names
 
@@ -77,18 +78,8 @@ words-fit o m name n a p q l =
 
 pub ruleset unopened = (name-fits, words-fit, lay-unopened, length-take-le, needs)
 
-module _ (o m score first file : List ℕ) (r : ℕ) (t : Bool) (x : Refusal) (e : t ≡ ofFile x) where
-  pub refused-score : t ≡ true → Laid o 0 (refusedLine score file x) m r → Laid o 0 (refusedLine (refusedName score first x) file x) m r
-  unfolding refusedName pick
-  refused-score p l = rw (← e, p) l
+pub refused-by : (o m score first file : List ℕ) (r : ℕ) (x : Refusal) (b y : Blame) → b ≡ blamed x → b ≡ y
+    → Laid o 0 (refusedLine (refusedName score first y) file x) m r → Laid o 0 (refusedLine (refusedName score first (blamed x)) file x) m r
+refused-by o m score first file r x b y e p l = rw (← e, p) l
 
-  module _ (u : Bool) (d : u ≡ ofGrace x) (p : t ≡ false) where
-    pub refused-grace : u ≡ true → Laid o 0 (refusedLine graceName file x) m r → Laid o 0 (refusedLine (refusedName score first x) file x) m r
-    unfolding refusedName pick
-    refused-grace q l = rw (← e, p, ← d, q) l
-
-    pub refused-first : u ≡ false → Laid o 0 (refusedLine first file x) m r → Laid o 0 (refusedLine (refusedName score first x) file x) m r
-    unfolding refusedName pick
-    refused-first q l = rw (← e, p, ← d, q) l
-
-pub ruleset refusing = (refused-score, refused-grace, refused-first, needs)
+pub ruleset refusing = (refused-by, needs)

@@ -1,13 +1,13 @@
 -- The lines that tell people of a refused opening and of a first line that opens nothing, and as much of a name as is told.
 use Prim.Native.Nat.{ℕ}
-use mathlib.Core.Bool.{Bool, true, false}
 use mathlib.Core.List.{List, _++_}
 use lib.ListN.{take}
-use Rattle.base.specs.Tests.{pick}
 use Rattle.ascii.specs.Text.{bytesOf}
 use Rattle.session.specs.declared.Refusal.{Refusal}
 use Rattle.session.specs.declared.Refusal.the-variants.{MemoryShort, RoomShort, File, BadTempo, BadGrace, NoSession, NoEvent, NotAfter, BadMillis, ClockFull}
 use Rattle.refusals.specs.Line.{refusalLine}
+use Rattle.telling.specs.declared.said.Blame.{Blame}
+use Rattle.telling.specs.declared.said.Blame.the-variants.{Score, Grace, Line}
 
 -- A name is told up to this many bytes.
 abbrev pub mostName : ℕ
@@ -21,38 +21,24 @@ saidRoom = 4608
 unfoldable pub toldName : List ℕ → List ℕ
 toldName name = take mostName name
 
--- Whether a refusal is for what is in the score file.
-unfoldable pub ofFile : Refusal → Bool
-ofFile MemoryShort = false
-ofFile RoomShort = false
-ofFile (File x) = true
-ofFile BadTempo = false
-ofFile BadGrace = false
-ofFile NoSession = false
-ofFile NoEvent = false
-ofFile NotAfter = false
-ofFile BadMillis = false
-ofFile ClockFull = false
+-- What a refusal is for: the score file, the grace, or the first line of the commands.
+unfoldable pub blamed : Refusal → Blame
+blamed MemoryShort = Line
+blamed RoomShort = Line
+blamed (File x) = Score
+blamed BadTempo = Line
+blamed BadGrace = Grace
+blamed NoSession = Line
+blamed NoEvent = Line
+blamed NotAfter = Line
+blamed BadMillis = Line
+blamed ClockFull = Line
 
--- Whether it is for the grace, which is told by the name that the usage has for it.
-unfoldable pub ofGrace : Refusal → Bool
-ofGrace MemoryShort = false
-ofGrace RoomShort = false
-ofGrace (File x) = false
-ofGrace BadTempo = false
-ofGrace BadGrace = true
-ofGrace NoSession = false
-ofGrace NoEvent = false
-ofGrace NotAfter = false
-ofGrace BadMillis = false
-ofGrace ClockFull = false
-
-abbrev pub graceName : List ℕ
-graceName = bytesOf "GRACE"
-
--- What is refused: the score, the grace, or the first line of the commands.
-unfoldable pub refusedName : (score first : List ℕ) → Refusal → List ℕ
-refusedName score first x = pick (ofFile x) score (pick (ofGrace x) graceName first)
+-- The name by which that is told: the grace's is the one that the usage has.
+unfoldable pub refusedName : (score first : List ℕ) → Blame → List ℕ
+refusedName score first Score = score
+refusedName score first Grace = bytesOf "GRACE"
+refusedName score first Line = first
 
 -- The line of a refusal of what has this name, with the entry of the score's bytes that is at fault.
 unfoldable pub refusedLine : (name file : List ℕ) → Refusal → List ℕ

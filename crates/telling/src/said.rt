@@ -7,7 +7,7 @@ ghost use Rattle.base.specs.Tests.{pick};
 ghost use Rattle.ascii.specs.Laying.{Laid};
 ghost use Rattle.reasons.specs.Reasons.{unreadLine, unwrittenLine};
 ghost use Rattle.telling.specs.Openings.{tellsRefusal, tellsGrace, tellsUnopened};
-ghost use Rattle.telling.specs.Said.{mostName, saidRoom, toldName, ofFile, ofGrace, refusedName, refusedLine, unopenedLine};
+ghost use Rattle.telling.specs.Said.{mostName, saidRoom, toldName, blamed, refusedName, refusedLine, unopenedLine};
 use ascii::put_bytes;
 use session::Refusal;
 
@@ -64,39 +64,27 @@ pub fn say_unwritten(name: &[u8], error: i32) {
 
 // ---- a refused opening
 
-// Whether the refusal is for what is in the score file.
-fn of_file(x: Refusal) -> bool
-    ensures { λ r. ⌜ r ≡ ofFile x ⌝ }
-{
-    match x {
-        Refusal::MemoryShort => false,
-        Refusal::RoomShort => false,
-        Refusal::File(_) => true,
-        Refusal::BadTempo => false,
-        Refusal::BadGrace => false,
-        Refusal::NoSession => false,
-        Refusal::NoEvent => false,
-        Refusal::NotAfter => false,
-        Refusal::BadMillis => false,
-        Refusal::ClockFull => false,
-    }
+// What a refusal is for: the score file, the grace, or the first line of the commands.
+pub enum Blame {
+    Score,
+    Grace,
+    Line,
 }
 
-// Whether it is for the grace.
-fn of_grace(x: Refusal) -> bool
-    ensures { λ r. ⌜ r ≡ ofGrace x ⌝ }
+fn blame_of(x: Refusal) -> Blame
+    ensures { λ r. ⌜ r ≡ blamed x ⌝ }
 {
     match x {
-        Refusal::MemoryShort => false,
-        Refusal::RoomShort => false,
-        Refusal::File(_) => false,
-        Refusal::BadTempo => false,
-        Refusal::BadGrace => true,
-        Refusal::NoSession => false,
-        Refusal::NoEvent => false,
-        Refusal::NotAfter => false,
-        Refusal::BadMillis => false,
-        Refusal::ClockFull => false,
+        Refusal::MemoryShort => Blame::Line,
+        Refusal::RoomShort => Blame::Line,
+        Refusal::File(_) => Blame::Score,
+        Refusal::BadTempo => Blame::Line,
+        Refusal::BadGrace => Blame::Grace,
+        Refusal::NoSession => Blame::Line,
+        Refusal::NoEvent => Blame::Line,
+        Refusal::NotAfter => Blame::Line,
+        Refusal::BadMillis => Blame::Line,
+        Refusal::ClockFull => Blame::Line,
     }
 }
 
@@ -109,18 +97,18 @@ fn put_refused(text: &mut [u8], name: &[u8], file: &[u8], x: Refusal) -> usize
     refusals::refusal_line(text, &name[..n], file, x)
 }
 
-// The line that tells people why an opening was refused: for what is in the file, for the grace, or for what is in line 1.
+// The line that tells people why an opening was refused, with the name of what it was refused for.
 fn put_refusal(text: &mut [u8], score: &[u8], first: &[u8], file: &[u8], x: Refusal) -> usize
     requires { ⌜ saidRoom ≤ length (now text) ⌝ }
-    ensures { λ r. ⌜ Laid (now (text .entry)) 0 (refusedLine (refusedName (now (score .entry)) (now (first .entry)) x) (now (file .entry)) x) (now (text .exit)) r ⌝ }
+    ensures { λ r. ⌜
+        Laid (now (text .entry)) 0 (refusedLine (refusedName (now (score .entry)) (now (first .entry)) (blamed x)) (now (file .entry)) x) (now (text .exit)) r
+        ⌝ }
 {
-    if of_file(x) {
-        return put_refused(text, score, file, x);
+    match blame_of(x) {
+        Blame::Score => put_refused(text, score, file, x),
+        Blame::Grace => put_refused(text, b"GRACE", file, x),
+        Blame::Line => put_refused(text, first, file, x),
     }
-    if of_grace(x) {
-        return put_refused(text, b"GRACE", file, x);
-    }
-    put_refused(text, first, file, x)
 }
 
 fn say_refusal(file: &[u8], score: &[u8], first: &[u8], nineteen: bool) {
