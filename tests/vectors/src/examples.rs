@@ -10,18 +10,20 @@ const BEAT: u32 = 5_040;
 const LOOSE: u8 = 0;
 const TIGHT: u8 = 1;
 const LOCAL: u8 = 0;
+const PARTIAL: u8 = 2;
 const CAUSAL: u8 = 3;
 
 /// Four notes of 2, 1, 1 and 2 beats.
 const NOTES: [u32; 4] = [2 * BEAT, BEAT, BEAT, 2 * BEAT];
 
-pub fn all() -> [(&'static str, Score); 5] {
+pub fn all() -> [(&'static str, Score); 6] {
     [
         ("small", small()),
         ("cellist", cellist()),
         ("chamber", chamber()),
         ("duo", duo()),
         ("sweep", sweep()),
+        ("early", early()),
     ]
 }
 
@@ -146,4 +148,35 @@ fn sweep() -> Score {
     ];
     let labels = ["tick", "tock", "64", "0", "-4", "-7", "-10", "27"];
     Score::new(&[4 * BEAT, 4 * BEAT], &items, &bytes(&labels))
+}
+
+/// An eighth of a beat, the longest grace.
+const EIGHTH: u32 = BEAT / 8;
+
+/// Three notes of 2 beats, so note 3 is at 20,160. Cues that are meant for it stand
+/// an eighth of a beat before it, at 19,530 (`brass`, and the group of `flash` and
+/// `dark`), or one grain, at 20,159 (`drum`).
+///
+/// Note 2 is missed and note 3 heard, so under note 2 an item is past "exactly if
+/// its date plus g is before" 20,160: `swell` and `dim`, at 15,120, with every
+/// grace; 19,530 with each below 630; 20,159 with 0 only. In the partial group "past
+/// actions are dropped"; in the causal one they come with note 3. The group in that,
+/// past, is split in turn, and `dark`, at 19,530 + 2,520, comes 1,890 after note 3;
+/// future, it is heard there with delay 0, and `dark` comes 2,520 after.
+fn early() -> Score {
+    let items = [
+        action(1, 0, 0),
+        group(2, 0, 3).words(LOOSE, PARTIAL),
+        action(0, 0, 1).after(BEAT),
+        action(0, 0, 2).after(BEAT - EIGHTH),
+        action(0, 0, 3).after(EIGHTH - 1),
+        group(2, 1, 4).words(LOOSE, CAUSAL),
+        action(0, 1, 4).after(BEAT),
+        group(0, 1, 2).words(LOOSE, CAUSAL).after(BEAT - EIGHTH),
+        action(0, 1, 5),
+        action(0, 1, 6).after(BEAT / 2),
+        action(3, 0, 7),
+    ];
+    let labels = ["drone", "swell", "brass", "drum", "dim", "flash", "dark", "tutti"];
+    Score::new(&[2 * BEAT, 2 * BEAT, 2 * BEAT], &items, &bytes(&labels))
 }
