@@ -136,6 +136,17 @@ module _ (f : List ℕ) (s : Stand) (n g : ℕ) where
         ++ bytesRead f (lineRead f (keeping (keptLine k rest)) .reading) (drop (lineLength rest + 1) rest) .output
     read-ended-output e = ap (λ (x : ReadOn). x .output) (read-ended e)
 
+-- The grace stays what it was.
+pub line-grace : (f : List ℕ) (r : Reading) (rest : List ℕ) → lineOn f r rest .reading .grace ≡ r .grace
+unfolding lineOn lineRead pick
+line-grace f r rest = go (ltb (lineLength rest) (length rest)) where
+  k : Reading
+  k = record { stand = r .stand; lines = r .lines; kept = keptLine (r .kept) rest; grace = r .grace }
+
+  go : (t : Bool) → pick t (lineRead f k) (record { reading = k; output = [] }) .reading .grace ≡ r .grace
+  go true = refl
+  go false = refl
+
 -- ---- from one line of a chunk to the next
 
 before-within : (stop : ℕ) (bs : List ℕ) → bytesBefore stop bs ≤ length bs

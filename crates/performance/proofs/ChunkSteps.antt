@@ -14,16 +14,17 @@ use Rattle.chunks.specs.declared.Progress.{Progress}
 use Rattle.chunks.specs.declared.Step.{Step}
 use Rattle.chunks.specs.Reading.{Reading, ReadOn, bytesRead}
 use Rattle.chunks.specs.Inner.{readingOf, Going, WentOn}
-use Rattle.chunks.proofs.ReadingLaws.{read-on}
+use Rattle.chunks.proofs.ReadingLaws.{read-on, line-grace}
 
 -- The chunk is read up to a place, from r₀ on, with lines₀ lines before it.
 pub record Taking (f chunk : List ℕ) (r₀ : Reading) (lines₀ : ℕ) (m room line out : List ℕ) (at : ℕ) (p : Progress) : Type 0 where
   pub going : Going f chunk at line p out
   pub lines : p .lines ≤ lines₀ + at
+  pub grace : p .grace ≡ r₀ .grace
   pub owed : bytesRead f r₀ chunk .reading ≡ bytesRead f (readingOf m room line p) (drop at chunk) .reading
 
 pub taking-start : (f chunk m room line out : List ℕ) (p : Progress) → Going f chunk 0 line p out → Taking f chunk (readingOf m room line p) (p .lines) m room line out 0 p
-taking-start f chunk m room line out p g = record { going = g; lines = omega arith; owed = refl }
+taking-start f chunk m room line out p g = record { going = g; lines = omega arith; grace = refl; owed = refl }
 
 module _ (f chunk : List ℕ) (r₀ : Reading) (lines₀ : ℕ) (m room line out : List ℕ) (at : ℕ) (p : Progress) (t : Taking f chunk r₀ lines₀ m room line out at p) where
   pub taking-going : Going f chunk at line p out
@@ -35,6 +36,9 @@ module _ (f chunk : List ℕ) (r₀ : Reading) (lines₀ : ℕ) (m room line out
 
   pub taking-lines : p .lines ≤ lines₀ + length chunk
   taking-lines = omega (arith, t .lines, t .going .place)
+
+  pub taking-grace : p .grace ≡ r₀ .grace
+  taking-grace = t .grace
 
   pub taking-asked : Asked f (p .opened) out
   taking-asked = t .going .asked
@@ -56,6 +60,7 @@ taking-step {f} {chunk} {r₀} {lines₀} {m} {room} {line} {out} {at} {p} {m′
             asked = record { accepted = w .accepted; room = omega (arith, t .going .asked .room) };
           };
       lines = omega (arith, t .lines, w .counted, w .onward b);
+      grace = ap (λ (x : Reading). x .grace) (w .reading) ∙ line-grace f (readingOf m room line p) (drop at chunk) ∙ t .grace;
       owed = t .owed ∙ rw (w .reading, w .next) d;
     }
 
@@ -68,7 +73,7 @@ onward w b = omega (arith, w .onward b, w .within)
 pub failed : (a b : Reading) → _≡_ {A = Bool} true false → a ≡ b
 failed a b e = let z : _≡_ {A = ℕ} 0 1 = cc in absurd (omega arith)
 
-pub ruleset chunks = (taking-start, taking-going, taking-all, taking-lines, taking-asked, needs)
+pub ruleset chunks = (taking-start, taking-going, taking-all, taking-lines, taking-grace, taking-asked, needs)
 
 -- ---- a part of a chunk
 
@@ -112,7 +117,10 @@ module _ (p q : Progress) (e : p ≡ q) where
   pub same-lines : (reads : ℕ) → q .lines ≤ 4096 * reads → reads ≤ 1000000000000000 → p .lines ≤ 5000000000000000000
   same-lines reads l m = rw e (omega arith)
 
+  pub same-grace : (g : ℕ) → q .grace ≡ g → p .grace ≡ g
+  same-grace g k = rw e k
+
   pub same-asked : (f out : List ℕ) → Asked f (q .opened) out → Asked f (p .opened) out
   same-asked f out a = rw e a
 
-pub ruleset inputs = (none-asked, same-have, same-lines, same-asked, needs)
+pub ruleset inputs = (none-asked, same-have, same-lines, same-grace, same-asked, needs)

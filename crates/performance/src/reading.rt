@@ -86,6 +86,7 @@ fn take_chunk(
     ensures { λ r. ⌜
         (r .progress .have ≤ keptBytes)
         × (r .progress .lines ≤ s .progress .lines + length (now (chunk .entry)))
+        × (r .progress .grace ≡ s .progress .grace)
         × Asked (now (file .entry)) (r .progress .opened) (now (out .exit))
         × (r .failed ≡ false →
         readingOf (now (mem .exit)) (now (room .exit)) (now (line .exit)) (r .progress)
@@ -145,6 +146,7 @@ fn take_part(
     ensures { λ r. ⌜
         (r .progress .have ≤ keptBytes)
         × (r .progress .lines ≤ s .progress .lines + length (now (chunk .entry)))
+        × (r .progress .grace ≡ s .progress .grace)
         × Asked (now (file .entry)) (r .progress .opened) (now (out .exit))
         × (n ≤ length (now (chunk .entry)) →
         r .failed ≡ false →
@@ -191,6 +193,7 @@ pub fn read_lines(
     ensures { λ r. ⌜
         (r .progress .have ≤ keptBytes)
         × (r .progress .lines ≤ 5000000000000000000)
+        × (r .progress .grace ≡ grace)
         × Asked (now (file .entry)) (r .progress .opened) (now (out .exit))
         ⌝ }
 {

@@ -33,7 +33,7 @@ returns c =
     let turn = c .before .before .before .before .before .before .before .before .before .before .before in
     let test = turn .before .before .before .before .before in
     let t = taking-step (test .before .loop .inv .0) (turn .take-line .ensures .0) (test .loop-test .taken) (search needs) in
-    (t .going .kept, taking-lines _ _ _ _ _ _ _ _ _ _ t, t .going .asked, λ e. failed _ _ e)
+    (t .going .kept, taking-lines _ _ _ _ _ _ _ _ _ _ t, t .grace, t .going .asked, λ e. failed _ _ e)
 
 returns-2 : tie.Need-returns-2 Inv-loop μ-loop
 returns-2 c = search chunks
