@@ -1,4 +1,4 @@
--- What `play` prints, by the score and the history of the calls alone: nothing of what session memory or a send room holds.
+-- What a run prints, `play`'s or one with a grace, by the score and the history of the calls alone: nothing of what session memory or a send room holds.
 use Prim.Native.Nat.{ℕ, _+_}
 use mathlib.Core.List.{List, [], _∷_, _++_}
 use lib.ListN.{length}

@@ -30,13 +30,13 @@ module _ (t : Places) (m : List ℕ) (j d s : ℕ) (is : s ≡ readingIn t m .st
   past-is = rw is
 
   -- the later of its own date and E(j)
-  pub future-raised : d < s → s ≡ futureDate (readingIn t m) j d
+  pub raised-is : d < s → s ≡ futureDate (readingIn t m) j d
   unfolding futureDate
-  future-raised l = omega arith
+  raised-is l = omega arith
 
-  pub future-kept : s ≤ d → d ≡ futureDate (readingIn t m) j d
+  pub kept-is : s ≤ d → d ≡ futureDate (readingIn t m) j d
   unfolding futureDate
-  future-kept l = omega arith
+  kept-is l = omega arith
 
   pub global-start-is : s ≡ globalStart (readingIn t m) j d
   unfolding globalStart

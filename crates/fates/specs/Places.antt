@@ -6,6 +6,7 @@ use lib.Dec.{leb}
 use lib.ListN.{getD, take, drop}
 use Rattle.page.specs.declared.Item.{Item}
 use Rattle.rules.specs.declared.Taken.{Taken}
+use Rattle.rules.specs.Terms.{mostGrace}
 use Rattle.rules.specs.Rules.{Reading}
 use Rattle.fates.specs.declared.Places.{Places}
 use Rattle.fates.specs.Fields.{eventNumbers, itemIn, startIn, takenIn}
@@ -19,7 +20,7 @@ pub record PlacesFit (t : Places) (room : ℕ) : Type 0 where
   pub some : 1 ≤ t .events
   pub few : t .events ≤ 256
   pub page : t .size ≤ 2048
-  pub grace : t .grace .0 ≤ 630
+  pub grace : t .grace .0 ≤ mostGrace
 
 -- What is read of the words m stands before the outcomes, so that writing these leaves it alone.
 abbrev pub read : Places → List ℕ → List ℕ

@@ -16,7 +16,7 @@ pub const ROW_ROOM: usize = 136;
 // How many commands there are.
 pub const COUNT: usize = 7;
 
-// As many names as there may be.
+// As many as there may be.
 const ANY_NUMBER: usize = 18446744073709551615;
 
 // A row whose texts stand in lent bytes one behind the other: where each ends, how many arguments the command takes, how many of them are names of files, and how many of these are read.

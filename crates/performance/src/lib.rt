@@ -52,7 +52,7 @@ fn finish(
     ending_after(refused)
 }
 
-// Plays the score's bytes by the commands that come from the descriptor `input`, with this grace. People are told of a refused score as `score`, of a refused tempo as `first`, and of an input that can't be read as `commands`.
+// Plays the score's bytes by the commands that come from the descriptor `input`, with this grace. People are told of a refused score as `score`, of a refused tempo as `first`, of a refused grace as GRACE, and of an input that can't be read as `commands`.
 pub fn perform(
     file: &[u8],
     score: &[u8],

@@ -1,4 +1,4 @@
--- "The program `play` reads the file `score.bin` and commands from standard input": what it prints, from the bytes of the one and of the other.
+-- "The program `play` reads the file `score.bin` and commands from standard input": what is printed, from the bytes of the one and of the other, and a grace.
 use Prim.Native.Nat.{ℕ, _+_, _/_, _%_}
 use mathlib.Core.Bool.{Bool, true, false}
 use mathlib.Core.List.{List, [], _∷_, _++_}

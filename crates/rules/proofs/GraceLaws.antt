@@ -122,7 +122,8 @@ module _ (R : Reading) (j b s : ℕ) where
   unfolding missedFate pick
   partial-late hear l = rw (late-future R j (b + s) l, future-kept R j (b + s) l)
 
-  -- An action of a missed causal group that is dated before E(j) sounds at once at j, past or within the grace. E(j) finds j itself, where events last at least a grain.
+  -- An action of a missed causal group that is dated no later than E(j) sounds at once at j, past or within the grace. E(j) finds j itself, where events last at least
+  -- a grain.
   pub causal-early : (y : Synchrony) → b + s ≤ R .start j → R .lastBefore (R .start j) ≡ j → R .became j ≡ heard
       → outcomeOf R (missedFate R causal j b s (heardFate R y causal j)) ≡ played j 0
   unfolding missedFate outcomeOf pick heardFate slicedFate

@@ -1,4 +1,4 @@
--- Past and future items, by their dates: all that other laws use of `past` and `futureDate`, so no other proof looks into them.
+-- Past and future items, by their dates: all that other laws of this crate use of `past` and `futureDate`, but that in Grow one reading and the next are asked alike.
 -- Assumes nothing.
 use mathlib.Core.Path.{_≡_, ap}
 use Prim.Native.Nat.{ℕ, _+_, _≤_}

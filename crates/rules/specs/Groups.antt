@@ -47,11 +47,11 @@ pastGroups R j b c x = select ownDate (λ t. false) (past R j) b 0 c x
 unfoldable pub future : Reading → (j t : ℕ) → Bool
 future R j t = not (past R j t)
 
--- "their dates less E(j)"
+-- "their dates less E(j)", never below 0
 unfoldable pub futureItems : Reading → (j b : ℕ) → Seq → Seq
 futureItems R j b x = select (futureDate R j) (future R j) (future R j) b 0 (R .start j) x
 
--- How a missed group is split at E(j): its past items and its past groups, at their dates, and its future items, by their dates less E(j).
+-- How a missed group is split at E(j): its past items and its past groups, at their dates, and its future items, by their dates less E(j), never below 0.
 pub record Split : Type 0 where
   pub items : (j b c : ℕ) → Seq → Seq
   pub groups : (j b c : ℕ) → Seq → Seq

@@ -6,7 +6,7 @@ use mathlib.Core.List.{List, [], _∷_, map}
 use Rattle.page.specs.declared.Item.{Item}
 use Rattle.base.specs.Tests.{pick}
 use Rattle.rules.specs.Terms.{Terms}
-use Rattle.rules.specs.Words.{loose, tight, local, partial, causal, synchronyOf, errorOf}
+use Rattle.rules.specs.Words.{loose, tight, local, global, partial, causal, synchronyOf, errorOf}
 use Rattle.rules.specs.Score.{Seq, end, action, group, total, E, more, lastBy}
 use Rattle.rules.specs.Heard.{taken}
 use Rattle.rules.specs.Rules.{Outcome, played, dropped, Triple, triple, triples, keep, perform, topHolder, run, enter, outcomeOf, fateOf, heardFate, slicedFate, missedFate, globalStart, past, futureDate, readingOf}
@@ -108,6 +108,10 @@ small-graces =
     ∷ under 629 four (group 0 loose causal (group 9450 tight partial (action 5040 a 2 end) end) end) (2 ∷ 4 ∷ []) (triple 2 4410 a ∷ [])
     -- G27: with 630 the group is future and starts at E(2): a at 10080 + 5040 = 15120 = E(3) goes to 3, missed, M(3) = 4; 15120 + 630 is before E(4) = 20160: past, dropped.
     ∷ under 630 four (group 0 loose causal (group 9450 tight partial (action 5040 a 2 end) end) end) (2 ∷ 4 ∷ []) []
+    -- G28: global asks for no grace. Past by a grain, the global group is missed, and heard at 2 with delay 0: a 630 later.
+    ∷ under 629 events (group 0 loose causal (group 9450 loose global (action 630 a 2 end) end) end) (2 ∷ []) (triple 2 630 a ∷ [])
+    -- G29: within the grace it is future, and starts at E(2): the same.
+    ∷ under 630 events (group 0 loose causal (group 9450 loose global (action 630 a 2 end) end) end) (2 ∷ []) (triple 2 630 a ∷ [])
     ∷ []
 
 -- What the rules give, and what a row wants of them.
@@ -119,7 +123,7 @@ unfoldable pub graceWants : Graced → Result
 graceWants (under g ds x D l) = of-sequence l []
 graceWants (page g ds is D l) = of-page l
 
--- G1 to G27.
+-- G1 to G29.
 pub small-graces-right : map graceGives small-graces ≡ map graceWants small-graces
 unfolding graceGives graceWants resultOf ifUndecided undecidedIn triples keep perform topHolder run enter outcomeOf fateOf heardFate slicedFate missedFate globalStart past futureDate readingOf taken lastBy more E total pick cues cast entries entriesOf runLength goesOn sequenceOf synchronyOf errorOf
 small-graces-right = refl

@@ -2,6 +2,7 @@
 use Prim.Native.Nat.{ℕ}
 use mathlib.Core.List.{List}
 use lib.ListN.{getD}
+pub use Rattle.rules.specs.Terms.{mostGrace}
 use Rattle.fates.specs.declared.Places.{Places}
 
 -- "session memory under 8,192 words", "send room under 2,048 words"
@@ -18,10 +19,6 @@ mostSent = 1024
 -- The limits of document 01's numbers.
 abbrev pub mostTempo : ℕ
 mostTempo = 50400
-
--- "a grace g, 0 to 630 grains"
-abbrev pub mostGrace : ℕ
-mostGrace = 630
 
 abbrev pub mostMillis : ℕ
 mostMillis = 1000
