@@ -38,9 +38,10 @@ module _ (t : Places) (m : List ℕ) (j d s : ℕ) (is : s ≡ readingIn t m .st
   unfolding futureDate
   kept-is l = omega arith
 
-  pub global-start-is : s ≡ globalStart (readingIn t m) j d
-  unfolding globalStart
-  global-start-is = is
+-- A missed global group starts where a future item does.
+pub global-start-is : (t : Places) (m : List ℕ) (j d s : ℕ) → s ≡ futureDate (readingIn t m) j d → s ≡ globalStart (readingIn t m) j d
+unfolding futureDate globalStart
+global-start-is t m j d s is = is
 
 -- ---- the four error words
 
@@ -79,7 +80,7 @@ unfolding eventOf dateOf
 not-yet-bounded n = record { event = omega arith; date = omega arith }
 
 module _ (j b s : ℕ) (few : j ≤ 256) where
-  pub global-bounded : (g : ℕ) → g < 2 ^ 31 → FateBounded (heardAt j (grains (g + s))) (b + s + 2 ^ 31)
+  pub global-bounded : (g : ℕ) → g ≤ b + 2 ^ 31 → FateBounded (heardAt j (grains (g + s))) (b + s + 2 ^ 31)
   unfolding eventOf dateOf
   global-bounded g h = record { event = few; date = omega arith }
 

@@ -12,7 +12,6 @@ ghost use Prim.Native.Nat.{_+_, _^_, _≤_, _<_};
 ghost use lib.ListN.{length};
 ghost use Rattle.rules.specs.Rules.{loosely, missedFate, slicedFate, heardFate};
 ghost use Rattle.rules.specs.Rules;
-ghost use Rattle.fates.specs.Fields.{startNumbers};
 ghost use Rattle.fates.specs.Places.{PlacesFit, readingIn};
 ghost use Rattle.fates.specs.Fates.{FateBounded};
 
@@ -34,12 +33,12 @@ fn future_date(mem: &[u64], t: Places, j: usize, own: Grains) -> Grains
     if own.0 < start.0 { start } else { own }
 }
 
-// Where a missed global group starts that is heard at j.
+// Where a missed global group starts that is heard at j: the later of its own date and E(j), as a future item does.
 fn global_start(mem: &[u64], t: Places, j: usize, own: Grains) -> Grains
     requires { ⌜ PlacesFit t (length (now mem)) × (j ≤ 256) ⌝ }
-    ensures { λ r. ⌜ (r .0 ≡ Rules.globalStart (readingIn t (now (mem .entry))) j (own .0)) × (r .0 < startNumbers) ⌝ }
+    ensures { λ r. ⌜ (r .0 ≡ Rules.globalStart (readingIn t (now (mem .entry))) j (own .0)) × (r .0 ≤ own .0 + 2 ^ 31) ⌝ }
 {
-    words::start_of(mem, t, j)
+    future_date(mem, t, j, own)
 }
 
 // An item of a loose group that was missed and was to start at `own`, `after` later: j is the first event heard after. The four error words.

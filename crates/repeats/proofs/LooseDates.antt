@@ -11,7 +11,7 @@ use Rattle.rules.specs.declared.Synchrony.the-variants.{Loose as loose}
 use Rattle.rules.specs.declared.ErrorWord.{ErrorWord}
 use Rattle.rules.specs.declared.ErrorWord.the-variants.{Global as global}
 use Rattle.rules.specs.Words.{synchronyOf, errorOf}
-use Rattle.rules.specs.Rules.{Reading, heardFate, heardGroup, missedGroup, fateOf, Outcome, played, dropped, undecided, outcomeOf, enter, Line, line, run}
+use Rattle.rules.specs.Rules.{Reading, globalStart, heardFate, heardGroup, missedGroup, fateOf, Outcome, played, dropped, undecided, outcomeOf, enter, Line, line, run}
 use Rattle.rules.proofs.Bodies.{missed-global-body}
 use Rattle.unfolding.specs.Unfolded.{Unfolded, end as nothing-more, action as send, group as held, passes, items}
 use Rattle.repeats.specs.Sequences.{sequence}
@@ -102,9 +102,9 @@ module _ (R : Reading) (i : Item) (period p : ℕ) (e : ErrorWord) (j b : ℕ) (
       rw (pass-start R i period e j b k, own, n) (loose-later R j (k * period) (k * (1 + items body)) y w w b 0 (p + 1) l)
       ∙ ap (map (laterBy (k * (1 + items body)) (k * period))) (sym (first-pass body))
 
--- ---- a loop whose event was missed, by the word global: it is heard at j instead, and its passes are counted from there
+-- ---- a loop whose event was missed, by the word global: it is heard at j instead, at its own date or at E(j), and its passes are counted from there
 
 pub missed-global-passes : (R : Reading) (i : Item) (period p n : ℕ) (y : Synchrony) (j b : ℕ) (body : Unfolded) →
-    run R (missedGroup y global j b) 0 (sequence p (passes i period 0 n body)) ≡ passRuns R (heardGroup y global j (R .start j)) i period p body 0 n
+    run R (missedGroup y global j b) 0 (sequence p (passes i period 0 n body)) ≡ passRuns R (heardGroup y global j (globalStart R j b)) i period p body 0 n
 missed-global-passes R i period p n y j b body =
-    missed-global-body R y j b 0 (sequence p (passes i period 0 n body)) ∙ loop-passes R (heardGroup y global j (R .start j)) i period p n body
+    missed-global-body R y j b 0 (sequence p (passes i period 0 n body)) ∙ loop-passes R (heardGroup y global j (globalStart R j b)) i period p n body

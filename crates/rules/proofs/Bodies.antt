@@ -70,8 +70,8 @@ module _ (R : Reading) where
   missed-local-body y j b s x =
       ap triples (run-alike R (missedGroup y local j b) silent s s x (λ n. refl)) ∙ silence silent nothing (λ n. refl) (λ v e. refl) (λ m l. refl) s x
 
-  pub missed-global-body : (y : Synchrony) (j b s : ℕ) (x : Seq) → run R (missedGroup y global j b) s x ≡ run R (heardGroup y global j (R .start j)) s x
-  unfolding fateOf missedFate globalStart
+  pub missed-global-body : (y : Synchrony) (j b s : ℕ) (x : Seq) → run R (missedGroup y global j b) s x ≡ run R (heardGroup y global j (globalStart R j b)) s x
+  unfolding fateOf missedFate
   missed-global-body y j b s x = run-alike R _ _ s s x (λ n. refl)
 
   -- A loose group's word is not asked where the group is heard, and its start and the delays' sum count together.

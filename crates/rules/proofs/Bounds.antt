@@ -60,7 +60,7 @@ module _ (R : Reading) (n : ℕ) (o : StartsInOrder R n) where
       ((t : ℕ) → R .start j ≤ t → t ≤ R .start j + L → FateBy L (hear t)) → FateBy L (missedFate R e j b s hear)
   unfolding globalStart
   by-missed L e j b s hear p q r f =
-      missed-with (HeardUpTo L) (MissedUpTo L) R e j b s hear (p, q) (f (R .start j + s) (omega arith) (omega arith))
+      missed-with (HeardUpTo L) (MissedUpTo L) R e j b s hear (p, q) (f (globalStart R j b + s) (omega arith) (omega arith))
       (λ l. f (futureDate R j (b + s)) l (future-to R j (b + s) (R .start j + L) q (omega arith)))
 
   by-sliced : (L : ℕ) (e : ErrorWord) (k t : ℕ) (a : Taken) → R .became k ≡ a → k ≤ n → R .start k ≤ t → t ≤ R .start k + L → FateBy L (slicedFate R e k t a)

@@ -1,4 +1,4 @@
--- With a grace of 0 the rules are document 01's: split as it splits a missed group, they keep to its sentences, and nothing else does. And what no grace changes: the
+-- With a grace of 0 the rules split a missed group as document 01 does: split so, they keep to its sentences, and nothing else does. And what no grace changes: the
 -- actions of a missed causal group, and all that is performed where no event is missed. Assumes nothing.
 use mathlib.Core.Path.{_≡_, refl, ap, ap₂, sym, _∙_}
 use Prim.Native.Nat.{ℕ, _+_, _-_, _≤_}
@@ -13,7 +13,7 @@ use Rattle.rules.specs.Score.{Seq, end, action, group, lastBy}
 use Rattle.rules.specs.Heard.{Taken, heard, missed, unsettled, taken}
 use Rattle.rules.specs.Rules.{Reading, readingOf, Fate, heardAt, missedBy, groupsOnly, nothing, notYet, grains, past, futureDate, missedFate, slicedFate, heardFate, Holder, heardGroup, missedGroup, missedTop, silent, waiting, fateOf, played, outcomeOf, enter, run, topHolder, perform, Triple, triples}
 use Rattle.rules.specs.Page.{Entry, cast, cues}
-use Rattle.rules.specs.Groups.{performFrom, select, ownDate, pastItems, pastGroups, future, futureItems, Split, splitOf, Orderly}
+use Rattle.rules.specs.Groups.{performFrom, select, ownDate, pastItems, pastGroups, future, futureItems, Split, splitOf, globalDelay, Orderly}
 use Rattle.rules.specs.GroupWise.{GroupWise}
 use Rattle.rules.specs.Document01.{before, notBefore, split01}
 use Rattle.rules.proofs.PastLaws.{past-01, future-01, late-future, future-raised, future-kept}
@@ -43,12 +43,12 @@ select-same f g A B G H a h d e b s c (group n y w x r) = go (H (b + (s + n))) r
 -- ---- two splits that are the same
 
 -- They take the same items to the same dates.
-record Alike (S T : Split) : Type 0 where
+pub record Alike (S T : Split) : Type 0 where
   items : (j b c : ℕ) (x : Seq) → S .items j b c x ≡ T .items j b c x
   groups : (j b c : ℕ) (x : Seq) → S .groups j b c x ≡ T .groups j b c x
   later : (j b : ℕ) (x : Seq) → S .future j b x ≡ T .future j b x
 
-flip : {S T : Split} → Alike S T → Alike T S
+pub flip : {S T : Split} → Alike S T → Alike T S
 flip a =
     record {
       items = λ j b c x. sym (a .items j b c x);
@@ -56,8 +56,8 @@ flip a =
       later = λ j b x. sym (a .later j b x);
     }
 
-resplit : (R : Reading) (S T : Split) (n : ℕ) (P : (i d : ℕ) → Seq → List Triple) → Alike S T → GroupWise R S n P → GroupWise R T n P
-resplit R S T n P a p =
+pub resplit : (R : Reading) (S T : Split) (G : (i j d : ℕ) → ℕ) (n : ℕ) (P : (i d : ℕ) → Seq → List Triple) → Alike S T → GroupWise R S G n P → GroupWise R T G n P
+resplit R S T G n P a p =
     record {
       no-items = p .no-items;
       action-first = p .action-first;
@@ -92,7 +92,7 @@ module _ (R : Reading) (none : R .grace ≡ 0) where
       go true q = sym q
       go false q = refl
 
-  same-split : Alike (splitOf R) (split01 R)
+  pub same-split : Alike (splitOf R) (split01 R)
   unfolding splitOf split01 pastItems pastGroups futureItems
   same-split =
       record {
@@ -102,13 +102,13 @@ module _ (R : Reading) (none : R .grace ≡ 0) where
       }
 
   module _ (n : ℕ) (o : Orderly R n) where
-    -- With no grace the rules keep to document 01's sentences,
-    pub rules-01 : GroupWise R (split01 R) n (yields R n o)
-    rules-01 = resplit R (splitOf R) (split01 R) n (yields R n o) same-split (rules-group-wise R n o)
+    -- With no grace the rules keep to document 01's sentences, with document 02's delay of a missed global group,
+    pub rules-01 : GroupWise R (split01 R) (globalDelay R) n (yields R n o)
+    rules-01 = resplit R (splitOf R) (split01 R) (globalDelay R) n (yields R n o) same-split (rules-group-wise R n o)
 
     -- and whatever keeps to these yields just their triples.
-    pub only-01 : (P : (i d : ℕ) → Seq → List Triple) → GroupWise R (split01 R) n P → (i d : ℕ) (x : Seq) → P i d x ≡ triples (performFrom R i d x)
-    only-01 P p i d x = only-reading R n o P (resplit R (split01 R) (splitOf R) n P (flip same-split) p) i d x
+    pub only-01 : (P : (i d : ℕ) → Seq → List Triple) → GroupWise R (split01 R) (globalDelay R) n P → (i d : ℕ) (x : Seq) → P i d x ≡ triples (performFrom R i d x)
+    only-01 P p i d x = only-reading R n o P (resplit R (split01 R) (splitOf R) (globalDelay R) n P (flip same-split) p) i d x
 
 -- ---- what no grace changes
 

@@ -10,7 +10,7 @@ use Rattle.rules.specs.Words.{Synchrony, loose, tight, ErrorWord, local,
 use Rattle.rules.specs.Score.{Seq, end, action, group}
 use Rattle.rules.specs.Heard.{Taken, heard, missed, unsettled}
 use Rattle.rules.specs.Rules.{Reading, run, perform, Triple, keep, triples}
-use Rattle.rules.specs.Groups.{performFrom, select, pastItems, pastGroups, futureItems, splitOf, slice, slices, Orderly}
+use Rattle.rules.specs.Groups.{performFrom, select, pastItems, pastGroups, futureItems, splitOf, slice, slices, globalDelay, Orderly}
 use Rattle.rules.specs.GroupWise.{sliced, GroupWise}
 use Rattle.rules.proofs.Sift.{triples-append}
 use Rattle.rules.proofs.RuleLaws
@@ -56,7 +56,7 @@ slice-few R k b x = select-few _ _ _ b 0 _ x
 
 -- ---- two that keep to the rules
 
-module _ (R : Reading) (n : ℕ) (o : Orderly R n) (P Q : (i d : ℕ) → Seq → List Triple) (p : GroupWise R (splitOf R) n P) (q : GroupWise R (splitOf R) n Q) where
+module _ (R : Reading) (G : (i j d : ℕ) → ℕ) (n : ℕ) (o : Orderly R n) (P Q : (i d : ℕ) → Seq → List Triple) (p : GroupWise R (splitOf R) G n P) (q : GroupWise R (splitOf R) G n Q) where
   module _ (N : ℕ) (ih : (i s : ℕ) (x : Seq) → itemsIn x ≤ N → P i s x ≡ Q i s x) where
     -- A group of synchrony y and at most N items, alone, where one that is heard yields the same.
     abbrev HeardSame : Synchrony → Type 0
@@ -66,7 +66,7 @@ module _ (R : Reading) (n : ℕ) (o : Orderly R n) (P Q : (i d : ℕ) → Seq �
         P i 0 (group d y e x end) ≡ Q i 0 (group d y e x end)
     unfolding splitOf
     missed-same y H i j d local x f h = p .missed-local i j d y x h ∙ sym (q .missed-local i j d y x h)
-    missed-same y H i j d global x f h = p .missed-global i j d y x h ∙ (H j 0 global x f (o .next i j h) ∙ sym (q .missed-global i j d y x h))
+    missed-same y H i j d global x f h = p .missed-global i j d y x h ∙ (H j (G i j d) global x f (o .next i j h) ∙ sym (q .missed-global i j d y x h))
     missed-same y H i j d partial x f h =
         let b = R .start i + d in
         p .missed-partial i j d y x h
@@ -164,7 +164,7 @@ module _ (R : Reading) (n : ℕ) (o : Orderly R n) where
   join-lines : (i j : ℕ) (l r : Seq) → triples (perform R i l ++ perform R j r) ≡ yields i 0 l ++ yields j 0 r
   join-lines i j l r = triples-append (perform R i l) (perform R j r) ∙ join-alone i j l r
 
-  pub rules-group-wise : GroupWise R (splitOf R) n yields
+  pub rules-group-wise : GroupWise R (splitOf R) (globalDelay R) n yields
   unfolding triples keep splitOf
   rules-group-wise =
       record {
@@ -182,6 +182,6 @@ module _ (R : Reading) (n : ℕ) (o : Orderly R n) where
         missed-partial = λ i j d y x h. single i _ ∙ (RuleLaws.missed-partial R n o i j h d y x ∙ join-alone i j _ _);
       }
 
-  -- Whatever keeps to document 01's rules, split on the terms of the opening, yields just the triples that the rules item by item do.
-  pub only-reading : (P : (i d : ℕ) → Seq → List Triple) → GroupWise R (splitOf R) n P → (i d : ℕ) (x : Seq) → P i d x ≡ triples (performFrom R i d x)
-  only-reading P p i d x = one-reading R n o P yields p rules-group-wise i d x
+  -- Whatever keeps to document 01's rules, split on the terms of the opening and with document 02's delay, yields just the triples that the rules item by item do.
+  pub only-reading : (P : (i d : ℕ) → Seq → List Triple) → GroupWise R (splitOf R) (globalDelay R) n P → (i d : ℕ) (x : Seq) → P i d x ≡ triples (performFrom R i d x)
+  only-reading P p i d x = one-reading R (globalDelay R) n o P yields p rules-group-wise i d x

@@ -58,7 +58,7 @@ module _ (terms : Terms) (ds D : List ℕ) (h : ℕ) (fits : h ≤ length ds) (a
 
   fresh-missed : (e : ErrorWord) (b s : ℕ) (hear : ℕ → Fate) → ((t : ℕ) → E ds h ≤ t → Fresh (hear t)) → Fresh (missedFate after e h b s hear)
   unfolding globalStart readingOf
-  fresh-missed e b s hear f = missed-with HeardFresh MissedFresh after e h b s hear refl (f (E ds h + s) (omega arith)) (f (futureDate after h (b + s)))
+  fresh-missed e b s hear f = missed-with HeardFresh MissedFresh after e h b s hear refl (f (globalStart after h b + s) (omega arith)) (f (futureDate after h (b + s)))
 
   -- From h on nothing but h is heard, so a slice is heard at h or waits.
   fresh-sliced : (e : ErrorWord) (t : ℕ) (v w : Taken) → E ds h ≤ t → Turns h (lastBy ds t) v w → v ≡ unsettled → h ≤ lastBy ds t →
@@ -128,7 +128,7 @@ module _ (terms : Terms) (ds D : List ℕ) (h : ℕ) (fits : h ≤ length ds) (a
   grow-missed : (e : ErrorWord) (j b s : ℕ) (f g : ℕ → Fate) → ((t : ℕ) → Grows (f t) (g t)) → Grows (missedFate before e j b s f) (missedFate after e j b s g)
   unfolding missedFate past futureDate globalStart readingOf
   grow-missed local j b s f g q = alike
-  grow-missed global j b s f g q = q (E ds j + s)
+  grow-missed global j b s f g q = q (globalStart before j b + s)
   grow-missed partial j b s f g q = grow-past _ _ _ _ (q (futureDate before j (b + s)))
   grow-missed causal j b s f g q = grow-past _ _ _ _ (q (futureDate before j (b + s)))
 

@@ -11,6 +11,7 @@ pub mod Readings
 pub mod Grow
 pub mod Sound
 pub mod GraceLaws
+pub mod GlobalLaws
 pub mod Bounds
 pub mod Places
 pub mod OwnPart

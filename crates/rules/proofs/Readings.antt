@@ -3,6 +3,7 @@
 use mathlib.Core.Path.{_≡_, refl, ap, ap₂, _∙_}
 use Prim.Native.Nat.{ℕ, _+_, _-_, _≤_}
 use mathlib.Core.List.{List, [], _∷_, _++_}
+use native.Mathlib.Omega.{arith}
 use lib.ListN.{length}
 use Rattle.rules.specs.Terms.{Terms}
 use Rattle.rules.specs.Words.{Synchrony, loose, tight, ErrorWord, local, global, partial, causal}
@@ -12,8 +13,8 @@ use Rattle.rules.specs.Rules.{Reading, readingOf, Fate, heardAt, missedB
 use Rattle.rules.specs.Page.{Entry, cast, cues}
 use Rattle.rules.specs.Groups.{Orderly}
 use Rattle.rules.proofs.PastLaws.{past-agrees, future-agrees}
-use Rattle.rules.proofs.Dates.{lastBy-le, lastBy-some, lastBy-fits, lastBy-mono}
-use Rattle.rules.proofs.HeardLaws.{next-heard}
+use Rattle.rules.proofs.Dates.{lastBy-le, lastBy-some, lastBy-fits, lastBy-mono, E-mono}
+use Rattle.rules.proofs.HeardLaws.{next-heard, next-after}
 use Rattle.rules.proofs.Events.{FateWith, HolderWith, FateOn, HolderOn, enter-on, Reaches, fate-on, top-on}
 
 -- ---- the reading of a score, whatever was heard
@@ -27,6 +28,7 @@ score-orderly terms ds D h =
       begun = lastBy-le ds;
       rises = lastBy-mono ds;
       next = next-heard D;
+      ahead = λ i j p. E-mono ds i j (omega (arith, next-after D i j p));
     }
 
 -- ---- two readings that answer alike about the events 1 to n, where no answer leads out of these
@@ -53,7 +55,7 @@ module _ (n : ℕ) (R Q : Reading) (a : Agree n R Q) where
   missed-agrees : (e : ErrorWord) (j b s : ℕ) (h k : ℕ → Fate) → In j → ((t : ℕ) → h t ≡ k t) → missedFate R e j b s h ≡ missedFate Q e j b s k
   unfolding missedFate globalStart
   missed-agrees local j b s h k p f = refl
-  missed-agrees global j b s h k p f = rw (a .start j p) (f (Q .start j + s))
+  missed-agrees global j b s h k p f = rw (a .start j p) (f (globalStart Q j b + s))
   missed-agrees partial j b s h k p f = rw (past-agrees R Q j (b + s) (a .start j p) (a .grace), future-agrees R Q j (b + s) (a .start j p), f (futureDate Q j (b + s)))
   missed-agrees causal j b s h k p f = rw (past-agrees R Q j (b + s) (a .start j p) (a .grace), future-agrees R Q j (b + s) (a .start j p), f (futureDate Q j (b + s)))
 

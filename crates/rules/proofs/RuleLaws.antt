@@ -11,8 +11,8 @@ use Rattle.base.specs.Tests.{pick}
 use Rattle.rules.specs.Words.{Synchrony, loose, tight, ErrorWord, local, global, partial, causal}
 use Rattle.rules.specs.Score.{Seq, end, action, group}
 use Rattle.rules.specs.Heard.{heard, missed, unsettled}
-use Rattle.rules.specs.Rules.{Reading, notYet, heardFate, waiting, fateOf, played, outcomeOf, enter, line, run, topHolder, perform, triples, keep}
-use Rattle.rules.specs.Groups.{performFrom, select, pastItems, pastGroups, futureItems, goesTo, slice, slices, Orderly}
+use Rattle.rules.specs.Rules.{Reading, notYet, globalStart, heardFate, heardGroup, waiting, fateOf, played, outcomeOf, enter, line, run, topHolder, perform, triples, keep}
+use Rattle.rules.specs.Groups.{performFrom, select, pastItems, pastGroups, futureItems, goesTo, slice, slices, globalDelay, Orderly}
 use Rattle.rules.proofs.Bodies.{silence, perform-heard, perform-missed, perform-late, perform-at, heard-loose-body, heard-tight-body, missed-local-body, missed-global-body, missed-causal-body, missed-partial-body}
 
 -- ---- a sequence
@@ -73,10 +73,14 @@ module _ (R : Reading) (n : ℕ) (o : Orderly R n) (i : ℕ) where
     pub missed-local : (d : ℕ) (y : Synchrony) (x : Seq) → triples (perform R i (group d y local x end)) ≡ []
     missed-local d y x = ap triples (perform-missed R i j d y local x is-missed) ∙ missed-local-body R y j (R .start i + d) 0 x
 
-    -- "Missed, global: the whole group is heard at j with delay 0."
-    pub missed-global : (d : ℕ) (y : Synchrony) (x : Seq) → perform R i (group d y global x end) ≡ perform R j (group 0 y global x end)
+    -- "a missed global group is heard at j with delay max(0, E(i) + d - E(j))"
+    pub missed-global : (d : ℕ) (y : Synchrony) (x : Seq) → perform R i (group d y global x end) ≡ perform R j (group (globalDelay R i j d) y global x end)
+    unfolding globalStart globalDelay
     missed-global d y x =
-        perform-missed R i j d y global x is-missed ∙ (missed-global-body R y j (R .start i + d) 0 x ∙ sym (perform-at R j y global x (o .next i j is-missed)))
+        perform-missed R i j d y global x is-missed
+        ∙ (missed-global-body R y j (R .start i + d) 0 x
+        ∙ (ap (λ (z : ℕ). run R (heardGroup y global j z) 0 x) (omega arith)
+        ∙ sym (perform-heard R j (globalDelay R i j d) y global x (o .next i j is-missed))))
 
     -- "Missed, causal: the items starting before E(j) are past, the others future. Past items run as missed, at their own delays; the future ones are a heard
     -- causal group of the same synchrony at j, their dates less E(j)."

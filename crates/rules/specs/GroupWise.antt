@@ -1,5 +1,6 @@
--- Document 01's rules as they stand there, group by group, as equations of whatever yields triples: P i d x are those of the sequence x from (i, d), and S is how a
--- missed group is split. Split on the terms of the opening, the rules item by item keep to them, and nothing else does (GroupWiseLaws).
+-- Document 01's rules as they stand there, group by group, as equations of whatever yields triples: P i d x are those of the sequence x from (i, d), S is how a missed
+-- group is split, and G i j d the delay with which a missed global group is heard at j. With both as document 02 has them (`splitOf`, `globalDelay`), the rules item by
+-- item keep to them, and nothing else does (GroupWiseLaws).
 use mathlib.Core.Path.{_≡_}
 use Prim.Native.Nat.{ℕ, zero, suc, _+_, _-_}
 use mathlib.Core.List.{List, [], _∷_, _++_}
@@ -15,7 +16,7 @@ sliced R P e zero b x = []
 sliced R P e (suc k) b x = sliced R P e k b x ++ P (suc k) 0 (group 0 loose e (slice R (suc k) b x) end)
 
 -- E(i) is R .start i, M(i) the j of `missed j`, and there are n events.
-pub record GroupWise (R : Reading) (S : Split) (n : ℕ) (P : (i d : ℕ) → Seq → List Triple) : Type 0 where
+pub record GroupWise (R : Reading) (S : Split) (G : (i j d : ℕ) → ℕ) (n : ℕ) (P : (i d : ℕ) → Seq → List Triple) : Type 0 where
   -- "Delays add up along a sequence; a group's own delay counts for what follows it, its body's delays don't."
   pub no-items : (i s : ℕ) → P i s end ≡ []
   pub action-first : (i s d m p : ℕ) (rest : Seq) → P i s (action d m p rest) ≡ P i 0 (action (s + d) m p end) ++ P i (s + d) rest
@@ -33,8 +34,8 @@ pub record GroupWise (R : Reading) (S : Split) (n : ℕ) (P : (i d : ℕ) → Se
   pub missed-action : (i j d m p : ℕ) → R .became i ≡ missed j → P i 0 (action d m p end) ≡ triple j (R .start i + d - R .start j) m ∷ []
   -- "Missed, local: nothing."
   pub missed-local : (i j d : ℕ) (y : Synchrony) (x : Seq) → R .became i ≡ missed j → P i 0 (group d y local x end) ≡ []
-  -- "Missed, global: the whole group is heard at j with delay 0."
-  pub missed-global : (i j d : ℕ) (y : Synchrony) (x : Seq) → R .became i ≡ missed j → P i 0 (group d y global x end) ≡ P j 0 (group 0 y global x end)
+  -- "Missed, global: the whole group is heard at j with delay" G i j d.
+  pub missed-global : (i j d : ℕ) (y : Synchrony) (x : Seq) → R .became i ≡ missed j → P i 0 (group d y global x end) ≡ P j 0 (group (G i j d) y global x end)
   -- "Missed, causal: the items starting before E(j) are past, the others future. Past items run as missed, at their own delays; the future ones are a heard
   -- causal group of the same synchrony at j, their dates less E(j)."
   pub missed-causal : (i j d : ℕ) (y : Synchrony) (x : Seq) → R .became i ≡ missed j →

@@ -75,11 +75,16 @@ unfoldable pub slices : Reading → ErrorWord → (n b : ℕ) → Seq → List L
 slices R e zero b x = []
 slices R e (suc n) b x = slices R e n b x ++ perform R (suc n) (group 0 loose e (slice R (suc n) b x) end)
 
+-- "heard at j with delay max(0, E(i) + d - E(j))": that of a global group which was missed at i. A difference is never below 0.
+unfoldable pub globalDelay : Reading → (i j d : ℕ) → ℕ
+globalDelay R i j d = R .start i + d - R .start j
+
 -- A reading of a score of n events, as document 01 has E, M and "the last event k with E(k) <= t": that event is one of the score's and has begun, a later date
--- finds no earlier one, and M(i) is heard. Readings shows it of every score, whatever was heard.
+-- finds no earlier one, and M(i) is heard and starts no earlier than i. Readings shows it of every score, whatever was heard.
 pub record Orderly (R : Reading) (n : ℕ) : Type 0 where
   pub some : (t : ℕ) → 1 ≤ R .lastBefore t
   pub fits : (t : ℕ) → R .lastBefore t ≤ n
   pub begun : (t : ℕ) → R .start (R .lastBefore t) ≤ t
   pub rises : (t u : ℕ) → t ≤ u → R .lastBefore t ≤ R .lastBefore u
   pub next : (i j : ℕ) → R .became i ≡ missed j → R .became j ≡ heard
+  pub ahead : (i j : ℕ) → R .became i ≡ missed j → R .start i ≤ R .start j

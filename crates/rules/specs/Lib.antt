@@ -9,6 +9,7 @@ pub mod Page
 pub mod Small
 pub mod SmallMore
 pub mod SmallGrace
+pub mod SmallGlobal
 pub mod Groups
 pub mod GroupWise
 pub mod Document01

@@ -36,9 +36,9 @@ past R j t = ltb (t + R .grace) (R .start j)
 unfoldable pub futureDate : Reading → (j t : ℕ) → ℕ
 futureDate R j t = max t (R .start j)
 
--- "Missed, global: the whole group is heard at j with delay 0": so it starts at E(j), wherever it was to start itself.
+-- "a missed global group is heard at j with delay max(0, E(i) + d - E(j))": so it starts at the later of its own date, E(i) + d, and E(j).
 unfoldable pub globalStart : Reading → (j own : ℕ) → ℕ
-globalStart R j own = R .start j
+globalStart R j own = max own (R .start j)
 
 -- ---- one item, by what holds it. b is where its holder starts, and s how long after that the item does.
 

@@ -109,13 +109,13 @@ more-small =
     -- 15120 is 2520.
     ∷ under events 2 (action 2520 a 0 (action 5040 b 1 end)) (1 ∷ 3 ∷ []) (triple 3 0 a ∷ triple 3 2520 b ∷ [])
     -- Q8: the items of a missed event run one by one, by the rules for missed ones, and not as a causal group's. M(1) = 2. a: 12600 - 10080 = 2520. "Missed, local:
-    -- nothing", though it starts after E(2). "Missed, global: the whole group is heard at j with delay 0", though it was to start at 15120: c at 5040.
+    -- nothing", though it starts after E(2). The global group has the date 12600 + 2520 = 15120, so it is heard at 2 with 15120 - 10080 = 5040: c at 5040 + 5040 = 10080.
     ∷ under events 1 (action 12600 a 0 (group 0 loose local (action 0 b 2 end) (group 2520 loose global (action 5040 c 4 end) end))) (2 ∷ [])
-    (triple 2 2520 a ∷ triple 2 5040 c ∷ [])
+    (triple 2 2520 a ∷ triple 2 10080 c ∷ [])
     -- Q9: "M(i) is the first heard event after i". 1 and 2 are missed, M(1) = 3 and not 5; E(3) = 10080. a: 2520 is before that, so 0. b: 2520 + 12600 = 15120, less 10080 is
-    -- 5040. The global group is heard at 3: c at 2520.
+    -- 5040. The global group has b's date, so it is heard at 3 with 5040: c at 5040 + 2520 = 7560.
     ∷ under five 1 (action 2520 a 0 (action 12600 b 1 (group 0 loose global (action 2520 c 3 end) end))) (3 ∷ 5 ∷ [])
-    (triple 3 0 a ∷ triple 3 5040 b ∷ triple 3 2520 c ∷ [])
+    (triple 3 0 a ∷ triple 3 5040 b ∷ triple 3 7560 c ∷ [])
     -- Q10: "without one, i yields nothing yet". Nothing is heard after event 2, so nothing comes of an action, nor of a global or a causal group.
     ∷ under-yet events 2 (action 5040 a 0 (group 0 loose global (action 0 b 2 end) (group 0 loose causal (action 0 c 4 end) end))) (1 ∷ []) []
     (a ∷ b ∷ c ∷ [])
@@ -123,8 +123,8 @@ more-small =
     -- c follows the group: 5040 + 7560 = 12600, a missed action, 2520.
     ∷ under events 1 (group 5040 loose causal (action 2520 a 1 (action 5040 b 2 end)) (action 7560 c 3 end)) (2 ∷ [])
     (triple 2 0 a ∷ triple 2 2520 b ∷ triple 2 2520 c ∷ [])
-    -- Q12: "Missed, global: the whole group is heard at j with delay 0". Its own delay of 7560 is gone for its body: a at 5040. It counts for what follows: b at 7560 + 5040 =
-    -- 12600, a missed action, 2520.
+    -- Q12: a missed global group that was to start before E(2), at 7560: max(0, 7560 - 10080) = 0, so a at 5040. Its delay counts for what follows: b at 7560 + 5040 = 12600, a
+    -- missed action, 2520.
     ∷ under events 1 (group 7560 loose global (action 5040 a 1 end) (action 5040 b 2 end)) (2 ∷ []) (triple 2 5040 a ∷ triple 2 2520 b ∷ [])
     -- Q13: "the items starting before E(j) are past, the others future". The first local group starts at 10079, before E(2) = 10080: past, it runs as missed, nothing. The
     -- second at 10080: future, heard at 2 with 10080 - 10080 = 0, so b at 5040.

@@ -1,4 +1,4 @@
--- `global_start` is E(j).
+-- `global_start` is the later of a missed global group's own date and E(j).
 -- Assumes nothing.
 use borrow.Author.Needs.{needs}
 use Rattle.fates.proofs.FateLaws.{global-start-is}

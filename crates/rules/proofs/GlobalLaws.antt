@@ -1,0 +1,207 @@
+-- Document 02 (v): a missed global group starts at its own date, or at E(j) where that is later. And only what a missed top global group holds can sound otherwise
+-- than before: with its own delay thrown away and all else as it is now, the rules keep to document 01's sentence on it, and nothing else does. Assumes nothing.
+use mathlib.Core.Path.{_≡_, refl, ap, ap₂, sym, _∙_}
+use Prim.Native.Nat.{ℕ, zero, suc, _+_, _-_, _≤_}
+use mathlib.Core.Bool.{Bool, true, false}
+use mathlib.Core.List.{List, [], _++_, append-nil}
+use native.Mathlib.Omega.{arith}
+use native.Mathlib.Nat.{zero-add}
+use borrow.Author.Tests.{ltb-true}
+use Rattle.rules.specs.Words.{Synchrony, loose, ErrorWord, local, global, partial, causal}
+use Rattle.rules.specs.Score.{Seq, end, action, group}
+use Rattle.rules.specs.Heard.{Taken, heard, missed, unsettled}
+use Rattle.rules.specs.Rules.{Reading, Fate, past, globalStart, missedFate, Line, run, perform, Triple, triples}
+use Rattle.rules.specs.Groups.{performFrom, select, ownDate, pastItems, pastGroups, splitOf, slice, globalDelay, Orderly}
+use Rattle.rules.specs.GroupWise.{sliced, GroupWise}
+use Rattle.rules.specs.Document01.{split01, atOnce, delay01, performed01, NoneLater, no-items, an-action, a-group}
+use Rattle.rules.proofs.Sift.{triples-append}
+use Rattle.rules.proofs.RuleLaws
+use Rattle.rules.proofs.GroupWiseLaws.{yields, rules-group-wise, one-reading}
+use Rattle.rules.proofs.GraceLaws.{flip, resplit, same-split}
+
+-- ---- the later of the two
+
+module _ (R : Reading) (j b s : ℕ) (hear : ℕ → Fate) where
+  -- A group that was to start no later than E(j) starts there, as before,
+  pub global-early : b ≤ R .start j → missedFate R global j b s hear ≡ hear (R .start j + s)
+  unfolding missedFate globalStart
+  global-early l = ap hear (omega arith)
+
+  -- and one that was to start later starts when it was to.
+  pub global-late : R .start j ≤ b → missedFate R global j b s hear ≡ hear (b + s)
+  unfolding missedFate globalStart
+  global-late l = ap hear (omega arith)
+
+-- ---- what is as before
+
+module _ (R : Reading) (n : ℕ) (o : Orderly R n) where
+  group-as-before : (i d : ℕ) (y : Synchrony) (e : ErrorWord) (x : Seq) → (e ≡ global → (j : ℕ) → R .became i ≡ missed j → R .start i + d ≤ R .start j) →
+      perform R i (group (delay01 (R .became i) e d) y e x end) ≡ perform R i (group d y e x end)
+  unfolding delay01 globalDelay
+  group-as-before i d y e x l = go (R .became i) refl e l
+    where
+      go : (a : Taken) → R .became i ≡ a → (e : ErrorWord) → (e ≡ global → (j : ℕ) → R .became i ≡ missed j → R .start i + d ≤ R .start j) →
+          perform R i (group (delay01 a e d) y e x end) ≡ perform R i (group d y e x end)
+      go (missed j) h global l =
+          let k : R .start i + d ≤ R .start j = l refl j h in
+          RuleLaws.missed-global R n o i j h 0 y x
+          ∙ (ap (λ (z : ℕ). perform R j (group z y global x end)) (omega arith) ∙ sym (RuleLaws.missed-global R n o i j h d y x))
+      go (missed j) h local l = refl
+      go (missed j) h partial l = refl
+      go (missed j) h causal l = refl
+      go heard h e l = refl
+      go unsettled h e l = refl
+
+  nothing-as-before : (i s : ℕ) → performed01 R i s end ≡ performFrom R i s end
+  unfolding performed01 performFrom run
+  nothing-as-before i s = refl
+
+  -- Where no top global group is missed with its own date after E(j), all is as before.
+  pub as-before : {i s : ℕ} {x : Seq} → NoneLater R i s x → performed01 R i s x ≡ performFrom R i s x
+  unfolding performed01
+  as-before {i} {s} no-items = nothing-as-before i s
+  as-before {i} {s} (an-action {d = d} {m = m} {p = p} {rest = x} w) =
+      ap (λ (z : List Line). perform R i (action (s + d) m p end) ++ z) (as-before w) ∙ sym (RuleLaws.delays-add-up-action R i s d m p x)
+  as-before {i} {s} (a-group {d = d} {y = y} {e = e} {body = b} {rest = x} l w) =
+      ap₂ _++_ (group-as-before i (s + d) y e b l) (as-before w) ∙ sym (RuleLaws.delays-add-up-group R i s d y e b x)
+
+  -- ---- what is no missed top group, or starts before E(j)
+
+  not-missed : (i : ℕ) → ((j : ℕ) → R .became i ≡ missed j → ⊥) → (s : ℕ) (x : Seq) → NoneLater R i s x
+  not-missed i none s end = no-items
+  not-missed i none s (action d m p x) = an-action (not-missed i none (s + d) x)
+  not-missed i none s (group d y e b x) = a-group (λ g j h. absurd (none j h)) (not-missed i none (s + d) x)
+
+  -- Items that are taken from a body at their dates, its groups at dates no later than E(j).
+  selected : (A G : ℕ → Bool) (i : ℕ) → ((t j : ℕ) → G t ≡ true → R .became i ≡ missed j → t ≤ R .start j) →
+      (b u c s : ℕ) (x : Seq) → R .start i + s ≡ c → c ≤ b + u → NoneLater R i s (select ownDate A G b u c x)
+  unfolding select
+  selected A G i l b u c s end e h = no-items
+  selected A G i l b u c s (action d m p x) e h = go (A (b + (u + d))) refl (λ z r. selected A G i l b (u + d) z r x)
+    where
+      go : (v : Bool) → A (b + (u + d)) ≡ v → ((z r : ℕ) → R .start i + r ≡ z → z ≤ b + (u + d) → NoneLater R i r (select ownDate A G b (u + d) z x)) →
+          NoneLater R i s (select ownDate A G b u c (action d m p x))
+      go true q ih = rw (q, select) (an-action {d = b + (u + d) - c} (ih (b + (u + d)) (s + (b + (u + d) - c)) (omega arith) (omega arith)))
+      go false q ih = rw (q, select) (ih c s e (omega arith))
+  selected A G i l b u c s (group d y w k x) e h = go (G (b + (u + d))) refl (λ z r. selected A G i l b (u + d) z r x)
+    where
+      go : (v : Bool) → G (b + (u + d)) ≡ v → ((z r : ℕ) → R .start i + r ≡ z → z ≤ b + (u + d) → NoneLater R i r (select ownDate A G b (u + d) z x)) →
+          NoneLater R i s (select ownDate A G b u c (group d y w k x))
+      go true q ih =
+          rw (q, select)
+          (a-group {s = s} {d = b + (u + d) - c} {e = w} (λ g j m. let t : b + (u + d) ≤ R .start j = l (b + (u + d)) j q m in omega arith)
+          (ih (b + (u + d)) (s + (b + (u + d) - c)) (omega arith) (omega arith)))
+      go false q ih = rw (q, select) (ih c s e (omega arith))
+
+  -- ---- the sentences
+
+  abbrev pub before : (i d : ℕ) → Seq → List Triple
+  before i d x = triples (performed01 R i d x)
+
+  abbrev now : (i d : ℕ) → Seq → List Triple
+  now = yields R n o
+
+  rules : GroupWise R (splitOf R) (globalDelay R) n now
+  rules = rules-group-wise R n o
+
+  same : {i s : ℕ} {x : Seq} → NoneLater R i s x → before i s x ≡ now i s x
+  same w = ap triples (as-before w)
+
+  heard-same : (i : ℕ) → R .became i ≡ heard → (s : ℕ) (x : Seq) → before i s x ≡ now i s x
+  heard-same i h s x = same (not-missed i (λ j m. let z : _≡_ {A = ℕ} 0 1 = cc in absurd (omega arith)) s x)
+
+  unsettled-same : (i : ℕ) → R .became i ≡ unsettled → (s : ℕ) (x : Seq) → before i s x ≡ now i s x
+  unsettled-same i h s x = same (not-missed i (λ j m. let z : _≡_ {A = ℕ} 0 1 = cc in absurd (omega arith)) s x)
+
+  action-same : (i d m p : ℕ) → before i 0 (action d m p end) ≡ now i 0 (action d m p end)
+  action-same i d m p = same (an-action no-items)
+
+  -- A group by another word, and one with no delay.
+  other-same : (i d : ℕ) (y : Synchrony) (e : ErrorWord) (x : Seq) → (e ≡ global → ⊥) → before i 0 (group d y e x end) ≡ now i 0 (group d y e x end)
+  other-same i d y e x w = same (a-group (λ g j h. absurd (w g)) no-items)
+
+  slice-same : (k : ℕ) (y : Synchrony) (e : ErrorWord) (x : Seq) → before k 0 (group 0 y e x end) ≡ now k 0 (group 0 y e x end)
+  slice-same k y e x = same (a-group (λ g j h. let l : R .start k ≤ R .start j = o .ahead k j h in omega arith) no-items)
+
+  slices-same : (e : ErrorWord) (k b : ℕ) (x : Seq) → sliced R now e k b x ≡ sliced R before e k b x
+  unfolding sliced
+  slices-same e zero b x = refl
+  slices-same e (suc k) b x = ap₂ _++_ (slices-same e k b x) (sym (slice-same (suc k) loose e (slice R (suc k) b x)))
+
+  -- Past items start before E(j).
+  past-ends : (i j : ℕ) → R .became i ≡ missed j → (t k : ℕ) → past R j t ≡ true → R .became i ≡ missed k → t ≤ R .start k
+  unfolding past
+  past-ends i j h t k p m =
+      let e : _≡_ {A = ℕ} j k = cc in
+      rw (← e) (omega (arith, ltb-true (t + R .grace) (R .start j) p))
+
+  past-same : (i j d : ℕ) (x : Seq) → R .became i ≡ missed j →
+      before i 0 (pastItems R j (R .start i + d) (R .start i) x) ≡ now i 0 (pastItems R j (R .start i + d) (R .start i) x)
+  unfolding pastItems
+  past-same i j d x h = same (selected (past R j) (past R j) i (past-ends i j h) (R .start i + d) 0 (R .start i) 0 x (omega arith) (omega arith))
+
+  past-groups-same : (i j d : ℕ) (x : Seq) → R .became i ≡ missed j →
+      before i 0 (pastGroups R j (R .start i + d) (R .start i) x) ≡ now i 0 (pastGroups R j (R .start i + d) (R .start i) x)
+  unfolding pastGroups
+  past-groups-same i j d x h = same (selected (λ t. false) (past R j) i (past-ends i j h) (R .start i + d) 0 (R .start i) 0 x (omega arith) (omega arith))
+
+  thrown-away : (i j d : ℕ) (y : Synchrony) (x : Seq) → R .became i ≡ missed j → before i 0 (group d y global x end) ≡ now i 0 (group 0 y global x end)
+  unfolding performed01 delay01
+  thrown-away i j d y x h =
+      ap triples (append-nil _)
+      ∙ (ap (λ (z : Taken). triples (perform R i (group (delay01 z global (0 + d)) y global x end))) h ∙ ap triples (RuleLaws.perform-from-nothing R i (group 0 y global x end)))
+
+  -- A sequence goes item by item.
+  first-action : (i s d m p : ℕ) (r : Seq) → before i s (action d m p r) ≡ before i 0 (action (s + d) m p end) ++ before i (s + d) r
+  unfolding performed01
+  first-action i s d m p r =
+      triples-append (perform R i (action (s + d) m p end)) _
+      ∙ ap (λ (z : List Line). triples z ++ before i (s + d) r) (ap (λ (z : ℕ). perform R i (action z m p end)) (sym (zero-add (s + d))) ∙ sym (append-nil _))
+
+  first-group : (i s d : ℕ) (y : Synchrony) (e : ErrorWord) (x r : Seq) → before i s (group d y e x r) ≡ before i 0 (group (s + d) y e x end) ++ before i (s + d) r
+  unfolding performed01
+  first-group i s d y e x r =
+      triples-append (perform R i (group (delay01 (R .became i) e (s + d)) y e x end)) _
+      ∙ ap (λ (z : List Line). triples z ++ before i (s + d) r)
+      (ap (λ (z : ℕ). perform R i (group (delay01 (R .became i) e z) y e x end)) (sym (zero-add (s + d))) ∙ sym (append-nil _))
+
+  at-once : (i j : ℕ) (y : Synchrony) (x : Seq) → R .became i ≡ missed j → now i 0 (group 0 y global x end) ≡ now j 0 (group 0 y global x end)
+  unfolding globalDelay
+  at-once i j y x h =
+      let l : R .start i ≤ R .start j = o .ahead i j h in
+      rules .missed-global i j 0 y x h ∙ ap (λ (z : ℕ). now j 0 (group z y global x end)) (omega arith)
+
+  -- What the rules were: split as now, they keep to document 01's sentence on a missed global group,
+  pub rules-before : GroupWise R (splitOf R) atOnce n before
+  unfolding splitOf atOnce
+  rules-before =
+      record {
+        no-items = λ i s. same no-items ∙ rules .no-items i s;
+        action-first = first-action;
+        group-first = first-group;
+        nothing-yet = λ i s x h. unsettled-same i h s x ∙ rules .nothing-yet i s x h;
+        heard-action = λ i d m p h. action-same i d m p ∙ rules .heard-action i d m p h;
+        heard-loose = λ i d e x h. heard-same i h 0 _ ∙ (rules .heard-loose i d e x h ∙ sym (heard-same i h d x));
+        heard-tight = λ i d e x h. heard-same i h 0 _ ∙ (rules .heard-tight i d e x h ∙ slices-same e n (R .start i + d) x);
+        missed-action = λ i j d m p h. action-same i d m p ∙ rules .missed-action i j d m p h;
+        missed-local = λ i j d y x h. other-same i d y local x (λ w. let z : _≡_ {A = ℕ} 0 1 = cc in absurd (omega arith)) ∙ rules .missed-local i j d y x h;
+        missed-global = λ i j d y x h. thrown-away i j d y x h ∙ (at-once i j y x h ∙ sym (heard-same j (o .next i j h) 0 _));
+        missed-causal =
+            λ i j d y x h. other-same i d y causal x (λ w. let z : _≡_ {A = ℕ} 0 1 = cc in absurd (omega arith))
+            ∙ (rules .missed-causal i j d y x h ∙ sym (ap₂ _++_ (past-same i j d x h) (heard-same j (o .next i j h) 0 _)));
+        missed-partial =
+            λ i j d y x h. other-same i d y partial x (λ w. let z : _≡_ {A = ℕ} 0 1 = cc in absurd (omega arith))
+            ∙ (rules .missed-partial i j d y x h ∙ sym (ap₂ _++_ (past-groups-same i j d x h) (heard-same j (o .next i j h) 0 _)));
+      }
+
+  -- and whatever keeps to it so yields just their triples.
+  pub only-before : (P : (i d : ℕ) → Seq → List Triple) → GroupWise R (splitOf R) atOnce n P → (i d : ℕ) (x : Seq) → P i d x ≡ triples (performed01 R i d x)
+  only-before P p i d x = one-reading R atOnce n o P before p rules-before i d x
+
+  -- With no grace, they keep to document 01's sentences as they stand there, every one, and nothing else does.
+  module _ (none : R .grace ≡ 0) where
+    pub document-01 : GroupWise R (split01 R) atOnce n before
+    document-01 = resplit R (splitOf R) (split01 R) atOnce n before (same-split R none) rules-before
+
+    pub only-document-01 : (P : (i d : ℕ) → Seq → List Triple) → GroupWise R (split01 R) atOnce n P → (i d : ℕ) (x : Seq) → P i d x ≡ triples (performed01 R i d x)
+    only-document-01 P p i d x = only-before P (resplit R (split01 R) (splitOf R) atOnce n P (flip (same-split R none)) p) i d x
