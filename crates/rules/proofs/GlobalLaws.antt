@@ -11,9 +11,10 @@ use Rattle.rules.specs.Words.{Synchrony, loose, ErrorWord, local, global
 use Rattle.rules.specs.Score.{Seq, end, action, group}
 use Rattle.rules.specs.Heard.{Taken, heard, missed, unsettled}
 use Rattle.rules.specs.Rules.{Reading, Fate, past, globalStart, missedFate, Line, run, perform, Triple, triples}
+use Rattle.rules.specs.Page.{Entry, cast, cues}
 use Rattle.rules.specs.Groups.{performFrom, select, ownDate, pastItems, pastGroups, splitOf, slice, globalDelay, Orderly}
 use Rattle.rules.specs.GroupWise.{sliced, GroupWise}
-use Rattle.rules.specs.Document01.{split01, atOnce, delay01, performed01, NoneLater, no-items, an-action, a-group}
+use Rattle.rules.specs.Document01.{split01, atOnce, delay01, performed01, NoneLater, no-items, an-action, a-group, cues01, NoneLaterOn, no-entries, an-entry}
 use Rattle.rules.proofs.Sift.{triples-append}
 use Rattle.rules.proofs.RuleLaws
 use Rattle.rules.proofs.GroupWiseLaws.{yields, rules-group-wise, one-reading}
@@ -64,6 +65,13 @@ module _ (R : Reading) (n : ℕ) (o : Orderly R n) where
       ap (λ (z : List Line). perform R i (action (s + d) m p end) ++ z) (as-before w) ∙ sym (RuleLaws.delays-add-up-action R i s d m p x)
   as-before {i} {s} (a-group {d = d} {y = y} {e = e} {body = b} {rest = x} l w) =
       ap₂ _++_ (group-as-before i (s + d) y e b l) (as-before w) ∙ sym (RuleLaws.delays-add-up-group R i s d y e b x)
+
+  -- And a whole page.
+  pub page-as-before : {es : List Entry} → NoneLaterOn R es → cues01 R es ≡ cues R es
+  unfolding cues01 cues
+  page-as-before no-entries = refl
+  page-as-before (an-entry {e = e} w v) =
+      ap₂ _++_ (ap (cast (e .part)) (as-before w ∙ sym (RuleLaws.perform-from-nothing R (e .event) (e .body)))) (page-as-before v)
 
   -- ---- what is no missed top group, or starts before E(j)
 

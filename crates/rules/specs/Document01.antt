@@ -3,12 +3,13 @@
 use mathlib.Core.Path.{_≡_}
 use Prim.Native.Nat.{ℕ, _+_, _≤_}
 use mathlib.Core.Bool.{Bool, false, not}
-use mathlib.Core.List.{List, [], _++_}
+use mathlib.Core.List.{List, [], _∷_, _++_}
 use lib.Dec.{ltb}
 use Rattle.rules.specs.Words.{Synchrony, ErrorWord, local, global, partial, causal}
 use Rattle.rules.specs.Score.{Seq, end, action, group}
 use Rattle.rules.specs.Heard.{Taken, heard, missed, unsettled}
 use Rattle.rules.specs.Rules.{Reading, Line, perform}
+use Rattle.rules.specs.Page.{Entry, Cue, cast}
 use Rattle.rules.specs.Groups.{select, ownDate, Split}
 
 -- ---- no grace
@@ -56,3 +57,13 @@ pub data NoneLater (R : Reading) (i : ℕ) : ℕ → Seq → Type 0 where
   an-action : {s d m p : ℕ} {rest : Seq} → NoneLater R i (s + d) rest → NoneLater R i s (action d m p rest)
   a-group : {s d : ℕ} {y : Synchrony} {e : ErrorWord} {body rest : Seq} → (e ≡ global → (j : ℕ) → R .became i ≡ missed j → R .start i + (s + d) ≤ R .start j) →
       NoneLater R i (s + d) rest → NoneLater R i s (group d y e body rest)
+
+-- A page as it was: each part's sequence at each event.
+unfoldable pub cues01 : Reading → List Entry → List Cue
+cues01 R [] = []
+cues01 R (e ∷ es) = cast (e .part) (performed01 R (e .event) 0 (e .body)) ++ cues01 R es
+
+-- A page of which that holds at each.
+pub data NoneLaterOn (R : Reading) : List Entry → Type 0 where
+  no-entries : NoneLaterOn R []
+  an-entry : {e : Entry} {es : List Entry} → NoneLater R (e .event) 0 (e .body) → NoneLaterOn R es → NoneLaterOn R (e ∷ es)

@@ -10,7 +10,7 @@ use Rattle.rules.specs.Score.{Seq, end, action, group, total, E, more, l
 use Rattle.rules.specs.Heard.{taken}
 use Rattle.rules.specs.Rules.{Outcome, played, dropped, Triple, triple, triples, keep, perform, topHolder, run, enter, outcomeOf, fateOf, heardFate, slicedFate, missedFate, globalStart, past, futureDate, readingOf}
 use Rattle.rules.specs.Page.{Cue, cues, cast, entries, entriesOf, runLength, goesOn, sequenceOf}
-use Rattle.rules.specs.Document01.{delay01, performed01}
+use Rattle.rules.specs.Document01.{delay01, performed01, cues01}
 use Rattle.rules.specs.Small.{events, a, b, a-then-b}
 use Rattle.rules.specs.SmallMore.{c, d, four, five, itemOf, cue, Result, of-page, resultOf, undecidedIn, ifUndecided, of-sequence}
 use Rattle.rules.specs.SmallGrace.{with-grace}
@@ -20,11 +20,11 @@ abbrev pub two-beats : List ℕ
 two-beats = 10080 ∷ 10080 ∷ 10080 ∷ 10080 ∷ []
 
 -- The grace; the events' durations; one part's sequence under event 1; the events heard; the triples before and now; and, where it is said, the actions of which
--- nothing is known yet: everywhere else each action is played or dropped. Or a whole page, the events heard, and what becomes of each action now.
+-- nothing is known yet: everywhere else each action is played or dropped. Or a whole page, the events heard, and what became and becomes of each action.
 pub data Delayed : Type 0 where
   under : (grace : ℕ) → List ℕ → Seq → List ℕ → (before now : List Triple) → Delayed
   under-yet : (grace : ℕ) → List ℕ → Seq → List ℕ → (before now : List Triple) → List ℕ → Delayed
-  page : (grace : ℕ) → List ℕ → List Item → List ℕ → List Cue → Delayed
+  page : (grace : ℕ) → List ℕ → List Item → List ℕ → (before now : List Cue) → Delayed
 
 -- Of `events` E is 0, 10,080, 15,120; of `four` it goes on with 20,160; of `five` it is 0, 5,040, 10,080, 15,120, 20,160. The pair is a after 5,040 and b 7,560 later.
 -- Before: "the whole group is heard at j with delay 0". Now: "with delay max(0, E(i) + d - E(j))".
@@ -129,7 +129,7 @@ small-globals =
     (triple 2 15120 a ∷ triple 2 15120 b ∷ triple 2 5040 c ∷ [])
     (triple 2 15120 a ∷ triple 2 15120 b ∷ triple 2 15120 c ∷ [])
     -- V24, two parts at event 1, each by its own dates. Part 0: the group at 20160, a at 10080; then b at 20160, a missed action, 10080. Part 1 begins anew: the group at 12600, c at
-    -- 12600 - 10080 = 2520.
+    -- 12600 - 10080 = 2520. Before, a and c at 0.
     ∷ page 0 events
     (itemOf 1 0 1 0 20160 1 1
     ∷ itemOf 0 0 0 0 0 0 a
@@ -137,21 +137,23 @@ small-globals =
     ∷ itemOf 1 0 1 1 12600 1 1
     ∷ itemOf 0 0 0 1 0 0 c
     ∷ [])
-    (2 ∷ []) (cue 1 0 a (played 2 10080) ∷ cue 2 0 b (played 2 10080) ∷ cue 4 1 c (played 2 2520) ∷ [])
+    (2 ∷ [])
+    (cue 1 0 a (played 2 0) ∷ cue 2 0 b (played 2 10080) ∷ cue 4 1 c (played 2 0) ∷ [])
+    (cue 1 0 a (played 2 10080) ∷ cue 2 0 b (played 2 10080) ∷ cue 4 1 c (played 2 2520) ∷ [])
     ∷ []
 
 -- What the rules gave and give, and what a row wants of them.
 unfoldable pub globalGives : Delayed → List Result
 globalGives (under g ds x D l k) = resultOf (performed01 (readingOf (with-grace g) ds D) 1 0 x) ∷ resultOf (perform (readingOf (with-grace g) ds D) 1 x) ∷ []
 globalGives (under-yet g ds x D l k w) = resultOf (performed01 (readingOf (with-grace g) ds D) 1 0 x) ∷ resultOf (perform (readingOf (with-grace g) ds D) 1 x) ∷ []
-globalGives (page g ds is D l) = of-page (cues (readingOf (with-grace g) ds D) (entries is)) ∷ []
+globalGives (page g ds is D l k) = of-page (cues01 (readingOf (with-grace g) ds D) (entries is)) ∷ of-page (cues (readingOf (with-grace g) ds D) (entries is)) ∷ []
 
 unfoldable pub globalWants : Delayed → List Result
 globalWants (under g ds x D l k) = of-sequence l [] ∷ of-sequence k [] ∷ []
 globalWants (under-yet g ds x D l k w) = of-sequence l w ∷ of-sequence k w ∷ []
-globalWants (page g ds is D l) = of-page l ∷ []
+globalWants (page g ds is D l k) = of-page l ∷ of-page k ∷ []
 
 -- V1 to V24.
 pub small-globals-right : map globalGives small-globals ≡ map globalWants small-globals
-unfolding globalGives globalWants performed01 delay01 resultOf ifUndecided undecidedIn triples keep perform topHolder run enter outcomeOf fateOf heardFate slicedFate missedFate globalStart past futureDate readingOf taken lastBy more E total pick cues cast entries entriesOf runLength goesOn sequenceOf synchronyOf errorOf
+unfolding globalGives globalWants cues01 performed01 delay01 resultOf ifUndecided undecidedIn triples keep perform topHolder run enter outcomeOf fateOf heardFate slicedFate missedFate globalStart past futureDate readingOf taken lastBy more E total pick cues cast entries entriesOf runLength goesOn sequenceOf synchronyOf errorOf
 small-globals-right = refl
