@@ -1,5 +1,5 @@
 //! One seed's random case: a score file, or none, and commands; in the graced
-//! cases a grace too.
+//! cases and those of request (v) a grace too.
 
 use crate::play::{number, play};
 use crate::random::Random;

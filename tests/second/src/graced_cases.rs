@@ -55,7 +55,7 @@ fn grace(random: &mut Random) -> u64 {
 }
 
 /// Now and then with leading zeros.
-fn written(random: &mut Random, grace: u64) -> String {
+pub fn written(random: &mut Random, grace: u64) -> String {
     let width = if random.percent(6) {
         random.between(2, 10) as usize
     } else {

@@ -1,9 +1,11 @@
 //! Random scores for graced cases: events short and long, most of them missed, and
-//! items within a grain of every date at which a grace decides.
+//! items within a grain of every date at which a grace decides. And such scores for
+//! request (v), with global groups at missed events.
 
 use crate::random::Random;
 use crate::score::{Entry, Tables, CAUSAL, DEEPEST, GLOBAL, LAST_PART, LOCAL, PARTIAL};
 use crate::scores::Invented;
+use crate::session::MOST_GRACE;
 
 /// A score, and the events that are to be heard.
 pub struct Graced {
@@ -20,11 +22,65 @@ fn deciding(grace: u64) -> [i64; 6] {
 
 pub fn invent(random: &mut Random, grace: u64) -> Graced {
     let durations = durations(random, grace);
+    let heard = heard(random, durations.len() as u64);
+    let habits = Habits {
+        groups: random.pick(&[25, 40, 55, 70]),
+        widest: random.pick(&[2, 4, 6, 8]),
+        tight: random.pick(&[0, 50, 50, 50, 100]),
+        words: random.pick(&[
+            &[PARTIAL, CAUSAL][..],
+            &[PARTIAL, CAUSAL],
+            &[PARTIAL, CAUSAL],
+            &[PARTIAL],
+            &[CAUSAL],
+            &[LOCAL, GLOBAL, PARTIAL, CAUSAL],
+            &[LOCAL, PARTIAL, PARTIAL, CAUSAL, CAUSAL],
+            &[GLOBAL, PARTIAL, PARTIAL, CAUSAL, CAUSAL],
+        ]),
+        globals: 0,
+        late: false,
+    };
+    write(random, grace, durations, heard, habits)
+}
+
+/// A score whose top groups are mostly global.
+pub fn invent_globals(random: &mut Random, grace: u64) -> Graced {
+    // Without a grace the events would be of a few grains.
+    let width = if grace == 0 {
+        random.between(0, MOST_GRACE)
+    } else {
+        grace
+    };
+    let durations = durations(random, width);
+    let heard = heard(random, durations.len() as u64);
+    let habits = Habits {
+        groups: random.pick(&[25, 40, 55, 70]),
+        widest: random.pick(&[2, 3, 4, 6]),
+        tight: random.pick(&[0, 40, 40, 40, 60, 100]),
+        words: random.pick(&[
+            &[LOCAL, GLOBAL, PARTIAL, CAUSAL][..],
+            &[LOCAL, GLOBAL, PARTIAL, CAUSAL],
+            &[GLOBAL, PARTIAL, CAUSAL],
+            &[GLOBAL, GLOBAL, PARTIAL, CAUSAL],
+            &[GLOBAL],
+        ]),
+        globals: random.pick(&[50, 70, 90]),
+        late: random.percent(75),
+    };
+    write(random, grace, durations, heard, habits)
+}
+
+fn write(
+    random: &mut Random,
+    grace: u64,
+    durations: Vec<u32>,
+    heard: Vec<u64>,
+    habits: Habits,
+) -> Graced {
     let mut starts = vec![0];
     for &duration in &durations {
         starts.push(starts[starts.len() - 1] + u64::from(duration));
     }
-    let heard = heard(random, durations.len() as u64);
     let mut tables = Tables {
         durations,
         ..Tables::default()
@@ -41,19 +97,7 @@ pub fn invent(random: &mut Random, grace: u64) -> Graced {
         grace,
         limit: 0,
         actions: 0,
-        groups: random.pick(&[25, 40, 55, 70]),
-        widest: random.pick(&[2, 4, 6, 8]),
-        tight: random.pick(&[0, 50, 50, 50, 100]),
-        words: random.pick(&[
-            &[PARTIAL, CAUSAL][..],
-            &[PARTIAL, CAUSAL],
-            &[PARTIAL, CAUSAL],
-            &[PARTIAL],
-            &[CAUSAL],
-            &[LOCAL, GLOBAL, PARTIAL, CAUSAL],
-            &[LOCAL, PARTIAL, PARTIAL, CAUSAL, CAUSAL],
-            &[GLOBAL, PARTIAL, PARTIAL, CAUSAL, CAUSAL],
-        ]),
+        habits,
         random,
     };
     writer.top();
@@ -114,6 +158,20 @@ fn missed(heard: &[u64]) -> Vec<u64> {
     (1..last).filter(|event| !heard.contains(event)).collect()
 }
 
+/// What the items of one score are like.
+struct Habits {
+    /// Of 100 items within a group, how many are groups.
+    groups: u64,
+    widest: u64,
+    tight: u64,
+    words: &'static [u8],
+    /// Of 100 top groups, how many are made global; 0 in a score that isn't made for
+    /// request (v).
+    globals: u64,
+    /// Whether an own date may be after E(j).
+    late: bool,
+}
+
 /// Writes the item table from front to back.
 struct Writer<'r> {
     random: &'r mut Random,
@@ -127,11 +185,7 @@ struct Writer<'r> {
     /// How long the table may be after the top items being written.
     limit: usize,
     actions: usize,
-    /// Of 100 items within a group, how many are groups.
-    groups: u64,
-    widest: u64,
-    tight: u64,
-    words: &'static [u8],
+    habits: Habits,
 }
 
 /// Where an item stands.
@@ -188,7 +242,11 @@ impl Writer<'_> {
         }
         let delay = self.delay(date, spot);
         let date = date + delay;
-        let groups = if spot.depth == 1 { 90 } else { self.groups };
+        let groups = if spot.depth == 1 {
+            90
+        } else {
+            self.habits.groups
+        };
         let mut entry = Entry {
             part: spot.part,
             event: spot.event,
@@ -204,32 +262,66 @@ impl Writer<'_> {
             return date;
         }
         entry.kind = 1;
-        entry.synchrony = u8::from(self.random.percent(self.tight));
-        entry.error = self.random.pick(self.words);
+        entry.synchrony = u8::from(self.random.percent(self.habits.tight));
+        entry.error = self.word(date, spot);
         let index = self.tables.items.len();
         self.tables.items.push(entry);
-        self.body(date, spot);
+        self.body(date, spot, entry.error);
         let within = self.tables.items.len() - index - 1;
         self.tables.items[index].last = within as u16;
         date
     }
 
-    fn body(&mut self, date: u64, spot: Spot) {
+    fn word(&mut self, date: u64, spot: Spot) -> u8 {
+        if self.for_globals() {
+            return self.word_for_globals(date, spot);
+        }
+        self.random.pick(self.habits.words)
+    }
+
+    /// Groups that are split mostly start early, so that they have a past.
+    fn word_for_globals(&mut self, date: u64, spot: Spot) -> u8 {
+        let any = self.random.pick(self.habits.words);
+        if spot.depth > 1 {
+            return self.random.pick(&[any, any, GLOBAL]);
+        }
+        let start = self.start_when_missed(spot.event);
+        let early = start.is_some_and(|start| date + 1 < start);
+        let globals = self.habits.globals / if early { 3 } else { 1 };
+        if self.random.percent(globals) {
+            return GLOBAL;
+        }
+        self.random.pick(&[PARTIAL, CAUSAL, any])
+    }
+
+    fn for_globals(&self) -> bool {
+        self.habits.globals > 0
+    }
+
+    fn body(&mut self, date: u64, spot: Spot, word: u8) {
         let inside = Spot {
             depth: spot.depth + 1,
             event: 0,
             ..spot
         };
-        let mut date = self.body_start(date, spot);
-        for _ in 0..self.random.between(1, self.widest) {
+        let mut date = self.body_start(date, spot, word);
+        for _ in 0..self.random.between(1, self.habits.widest) {
             date = self.item(date, inside);
         }
     }
 
-    /// Where a body runs from: at the barline, if its group is raised to it.
-    fn body_start(&mut self, date: u64, spot: Spot) -> u64 {
+    /// Where a body runs from: at the barline, if its group is raised to it, or if it
+    /// is global and starts there.
+    fn body_start(&mut self, date: u64, spot: Spot, word: u8) -> u64 {
+        if self.for_globals() && word == GLOBAL && spot.depth == 1 {
+            let start = self.start_when_missed(spot.event);
+            return start.map_or(date, |start| start.max(date));
+        }
         let barline = self.next_barline(date).map(|index| self.barlines[index]);
         let start = barline.map_or(date, |event| self.start(event));
+        if self.for_globals() && word == GLOBAL && self.random.percent(50) {
+            return start;
+        }
         let within = (date..=date + self.grace).contains(&start);
         if spot.depth > 1 && within && self.random.percent(60) {
             return start;
@@ -242,7 +334,22 @@ impl Writer<'_> {
         self.barlines.iter().position(to_come)
     }
 
+    /// E(j) of a missed event.
+    fn start_when_missed(&self, event: u16) -> Option<u64> {
+        let event = u64::from(event);
+        if !self.missed.contains(&event) {
+            return None;
+        }
+        let j = self.barlines.iter().find(|barline| **barline > event)?;
+        Some(self.start(*j))
+    }
+
     fn delay(&mut self, date: u64, spot: Spot) -> u64 {
+        if self.for_globals() {
+            if let Some(delay) = self.delay_for_globals(date, spot) {
+                return delay;
+            }
+        }
         let aims = if spot.depth == 1 { 20 } else { 75 };
         if self.random.percent(aims) {
             return self.aimed(date);
@@ -275,5 +382,62 @@ impl Writer<'_> {
         // Mostly the next, so that a body goes through all of them.
         let any = self.random.pick(&dates);
         self.random.pick(&[dates[0], dates[0], any]) - date
+    }
+
+    /// Of a top item at a missed event, the delay to an own date that decides; of
+    /// items within a group, some start beside an event, heard or not.
+    fn delay_for_globals(&mut self, date: u64, spot: Spot) -> Option<u64> {
+        if spot.depth > 1 {
+            if !self.random.percent(15) {
+                return None;
+            }
+            return self.beside_an_event(date).map(|beside| beside - date);
+        }
+        let start = self.start_when_missed(spot.event)?;
+        if self.random.percent(30) {
+            return None;
+        }
+        // What stands before it in the sequence may be past a date already.
+        for _ in 0..6 {
+            let any = self.own_date(date, start);
+            let own = if self.habits.late {
+                any
+            } else {
+                any.min(start)
+            };
+            if own >= date {
+                return Some(own - date);
+            }
+        }
+        Some(0)
+    }
+
+    /// An own date: about E(j), at the grace after it, beside a later event, past the
+    /// last one, or anywhere.
+    fn own_date(&mut self, date: u64, start: u64) -> u64 {
+        let end = self.starts[self.starts.len() - 1];
+        match self.random.below(16) {
+            0..=1 => start - 1,
+            2..=3 => start,
+            4..=5 => start + 1,
+            6 => start + self.grace,
+            7 => start + self.grace + 1,
+            8..=11 => self.beside_an_event(start + 2).unwrap_or(end),
+            12 => end + self.random.below(700),
+            13 => self.random.between(date.min(start), start),
+            _ => self.random.between(date.min(end), end + 700),
+        }
+    }
+
+    /// A date from this one on: one of the next events' starts, or a grain beside it.
+    fn beside_an_event(&mut self, date: u64) -> Option<u64> {
+        let events = &self.starts[..self.starts.len() - 1];
+        let next = events.partition_point(|&start| start < date + 1);
+        let left = events.len() - next;
+        if left == 0 {
+            return None;
+        }
+        let start = events[next + self.random.index(left.min(4))];
+        Some(start + self.random.pick(&[0, 1, 1, 2]) - 1)
     }
 }

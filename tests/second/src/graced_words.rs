@@ -2,14 +2,13 @@
 
 use crate::case::Case;
 use crate::graced_cases::of_seed;
+use crate::nodes::Node::{self, Action, Group};
+use crate::nodes::{self, FOUR, THREE};
 use crate::play::{number, perform, play};
 use crate::rules::Met;
-use crate::score::{
-    Entry, ErrorWord, Synchrony, Tables, CAUSAL, GLOBAL, LOCAL, LOOSE, PARTIAL, TIGHT,
-};
+use crate::score::{ErrorWord, Synchrony, Tables, CAUSAL, GLOBAL, LOCAL, LOOSE, PARTIAL, TIGHT};
 use crate::session::Session;
 use crate::words::{plays, Played, Tally, SMALL};
-use Node::{Action, Group};
 
 pub fn graced_words(tally: &mut Tally) {
     rows(tally);
@@ -21,49 +20,9 @@ pub fn graced_words(tally: &mut Tally) {
 
 // ------------------------------------------------------------------ rows
 
-/// A delay and a letter; or a delay, the two words and what is within.
-enum Node {
-    Action(u32, u8),
-    Group(u32, u8, u8, &'static [Node]),
-}
-
 /// A score with this one top item, under event 1.
 fn score(durations: &[u32], top: &Node) -> Tables {
-    let mut tables = Tables {
-        durations: durations.to_vec(),
-        ..Tables::default()
-    };
-    for letter in b"abcd" {
-        tables.add_message(&[*letter]);
-    }
-    put(&mut tables, top, 1);
-    tables
-}
-
-fn put(tables: &mut Tables, node: &Node, event: u16) {
-    match *node {
-        Action(delay, letter) => tables.items.push(Entry {
-            delay,
-            event,
-            last: u16::from(letter - b'a'),
-            ..Entry::default()
-        }),
-        Group(delay, synchrony, error, body) => {
-            let index = tables.items.len();
-            tables.items.push(Entry {
-                kind: 1,
-                synchrony,
-                error,
-                delay,
-                event,
-                ..Entry::default()
-            });
-            for inner in body {
-                put(tables, inner, 0);
-            }
-            tables.items[index].last = (tables.items.len() - index - 1) as u16;
-        }
-    }
+    nodes::score(durations, [(1, 0, top)])
 }
 
 /// Name, durations, the item under event 1, the events heard; then for each grace
@@ -75,11 +34,6 @@ type Row = (
     &'static [usize],
     &'static [(u64, &'static [Played])],
 );
-
-/// E is 0, 10,080 and 15,120.
-const THREE: &[u32] = &[10_080, 5_040, 5_040];
-/// E is 0, 10,080, 15,120 and 20,160.
-const FOUR: &[u32] = &[10_080, 5_040, 5_040, 5_040];
 
 /// The rows of the request's table.
 #[rustfmt::skip]
@@ -321,16 +275,15 @@ fn numbers(tally: &mut Tally) {
 // ----------------------------------------------------------------- cases
 
 /// A case, the number that its opening got, if it has one, and its session.
-struct Shown {
-    case: Case,
-    reply: Option<u64>,
-    session: Option<Session>,
-    met: Vec<Met>,
+pub struct Shown {
+    pub case: Case,
+    pub reply: Option<u64>,
+    pub session: Option<Session>,
+    pub met: Vec<Met>,
 }
 
 impl Shown {
-    fn of_seed(seed: u64) -> Shown {
-        let case = of_seed(seed);
+    pub fn of(case: Case) -> Shown {
         let (output, session) = perform(case.file(), &case.commands, case.grace());
         let met = session.as_ref().map_or(Vec::new(), Session::met);
         Shown {
@@ -341,7 +294,7 @@ impl Shown {
         }
     }
 
-    fn written(&self) -> &str {
+    pub fn written(&self) -> &str {
         self.case.grace.as_deref().unwrap_or("")
     }
 }
@@ -353,7 +306,7 @@ fn opening_reply(output: &[u8]) -> Option<u64> {
 
 /// 1,000 graced cases show every sort of reply, of grace and of group.
 fn shown(tally: &mut Tally) {
-    let cases: Vec<Shown> = (1..=1_000).map(Shown::of_seed).collect();
+    let cases: Vec<Shown> = (1..=1_000).map(|seed| Shown::of(of_seed(seed))).collect();
     replies(tally, &cases);
     graces(tally, &cases);
     deciding_dates(tally, &cases);
@@ -410,7 +363,7 @@ fn graces(tally: &mut Tally, cases: &[Shown]) {
 }
 
 /// A group that is split: one that is written, or a slice.
-const SORTS: &[(&str, Synchrony, bool)] = &[
+pub const SORTS: &[(&str, Synchrony, bool)] = &[
     ("loose", Synchrony::Loose, false),
     ("tight", Synchrony::Tight, false),
     ("sliced", Synchrony::Loose, true),

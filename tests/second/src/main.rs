@@ -16,11 +16,15 @@ mod extended_refusals;
 mod extended_specials;
 mod extended_words;
 mod figures;
+mod global_cases;
+mod global_shown;
+mod global_words;
 mod graced_cases;
 mod graced_scores;
 mod graced_words;
 mod lines;
 mod mutant;
+mod nodes;
 mod noise;
 mod odd;
 mod play;
@@ -51,8 +55,9 @@ const USAGE: &str = "usage:
   second reply FILE
   second answer DIR [GRACE]
   second graced FILE COMMANDS GRACE
-  second make SEED DIR
-  second compare [--graces] --runs N --seed S [--threads T] [--keep DIR] -- CMD ARG..
+  second globals-moved DIR [GRACE]
+  second make [--graces | --globals] SEED DIR
+  second compare [--graces | --globals] --runs N --seed S [--threads T] [--keep DIR] -- CMD ARG..
   second files SEED COUNT OUT
   second scatter DIR SEED COUNT
   second noise SEED LINES
@@ -100,7 +105,13 @@ fn run(arguments: &[OsString]) -> Result<bool, Fault> {
         ("answer", [folder]) => answer(Path::new(folder), 0),
         ("answer", [folder, grace]) => answer(Path::new(folder), self::grace(grace)?),
         ("graced", [file, commands, grace]) => graced(file, commands, self::grace(grace)?),
-        ("make", [seed, folder]) => make(number(seed)?, Path::new(folder)),
+        ("globals-moved", [folder]) => globals_moved(Path::new(folder), 0),
+        ("globals-moved", [folder, grace]) => globals_moved(Path::new(folder), self::grace(grace)?),
+        ("make", [seed, folder]) => make(Case::of_seed, number(seed)?, Path::new(folder)),
+        ("make", [sort, seed, folder]) => {
+            let case = sort_of_case(sort).ok_or(Fault::Arguments)?;
+            make(case, number(seed)?, Path::new(folder))
+        }
         ("compare", rest) => compare(rest),
         ("files", [seed, count, out]) => files(number(seed)?, number(count)?, Path::new(out)),
         ("scatter", [folder, seed, count]) => {
@@ -151,6 +162,12 @@ fn reply(file: &Path) -> Result<bool, Fault> {
 }
 
 fn answer(folder: &Path, grace: u64) -> Result<bool, Fault> {
+    let (file, input) = read_case(folder)?;
+    write_play(&file, &input, grace)
+}
+
+/// The score file, empty where it can't be read, and the commands.
+fn read_case(folder: &Path) -> io::Result<(Vec<u8>, Vec<u8>)> {
     let file = fs::read(folder.join(case::SCORE)).unwrap_or_default();
     let commands = folder.join(case::COMMANDS);
     let input = if commands.exists() {
@@ -158,7 +175,15 @@ fn answer(folder: &Path, grace: u64) -> Result<bool, Fault> {
     } else {
         standard_input()?
     };
-    write_play(&file, &input, grace)
+    Ok((file, input))
+}
+
+/// Does request (v) move a group of this case?
+fn globals_moved(folder: &Path, grace: u64) -> Result<bool, Fault> {
+    let (file, input) = read_case(folder)?;
+    let moved = global_shown::is_moved(&file, &input, grace);
+    println!("{}", if moved { "moved" } else { "unmoved" });
+    Ok(true)
 }
 
 /// Takes the arguments that the product's `play` takes, to stand in for it.
@@ -183,9 +208,18 @@ fn standard_input() -> io::Result<Vec<u8>> {
     Ok(input)
 }
 
-fn make(seed: u64, folder: &Path) -> Result<bool, Fault> {
+/// The cases of an option, which have a grace each.
+fn sort_of_case(option: &OsString) -> Option<fn(u64) -> Case> {
+    match option.to_str() {
+        Some("--graces") => Some(graced_cases::of_seed),
+        Some("--globals") => Some(global_cases::of_seed),
+        _ => None,
+    }
+}
+
+fn make(case: fn(u64) -> Case, seed: u64, folder: &Path) -> Result<bool, Fault> {
     fs::create_dir_all(folder)?;
-    Case::of_seed(seed).write(folder)?;
+    case(seed).write(folder)?;
     Ok(true)
 }
 
@@ -255,13 +289,14 @@ fn scatter(folder: &Path, seed: u64, count: u64) -> Result<bool, Fault> {
 
 fn compare(arguments: &[OsString]) -> Result<bool, Fault> {
     let (mut runs, mut seed, mut threads, mut keep) = (None, None, 2, None);
-    let mut graces = false;
+    let (mut case, mut option): (fn(u64) -> Case, _) = (Case::of_seed, String::new());
     let mut rest = arguments;
     let program = loop {
         match rest {
             [word, program @ ..] if word == "--" => break program,
-            [word, others @ ..] if word == "--graces" => {
-                graces = true;
+            [word, others @ ..] if sort_of_case(word).is_some() => {
+                case = sort_of_case(word).ok_or(Fault::Arguments)?;
+                option = format!("{} ", word.to_string_lossy());
                 rest = others;
             }
             [word, value, others @ ..] => {
@@ -286,19 +321,13 @@ fn compare(arguments: &[OsString]) -> Result<bool, Fault> {
     let words: Vec<_> = program.iter().map(|word| word.to_string_lossy()).collect();
     println!("seeds {seed} to {}", seed.wrapping_add(runs - 1));
     println!(
-        "one seed alone: second compare {}--runs 1 --seed SEED -- {}",
-        if graces { "--graces " } else { "" },
+        "one seed alone: second compare {option}--runs 1 --seed SEED -- {}",
         words.join(" ")
     );
     match mutant::from_environment() {
         Ok(0) | Err(_) => {}
         Ok(number) => println!("expected by wrong rule {number}"),
     }
-    let case = if graces {
-        graced_cases::of_seed
-    } else {
-        Case::of_seed
-    };
     Ok(tally(compare::compare(compare::Plan {
         case,
         runs,

@@ -1,15 +1,16 @@
 //! One wrong rule at a time, so that it can be seen that a comparison fails
 //! where it should. Without the variable every rule is the paper's.
 
+use std::cell::Cell;
 use std::sync::OnceLock;
 
 pub const VARIABLE: &str = "SECOND_MUTANT";
-pub const LAST: u32 = 46;
+pub const LAST: u32 = 51;
 
 pub const EXACTLY_E_J_IS_PAST: u32 = 1;
 pub const SLICE_FROM_THE_MISSED_EVENT: u32 = 2;
 pub const GROUP_DELAY_LOST: u32 = 3;
-pub const GLOBAL_KEEPS_ITS_DATE: u32 = 4;
+pub const GLOBAL_DELAY_LOST: u32 = 4;
 pub const PARTIAL_PLAYS_PAST_ACTIONS: u32 = 5;
 pub const PARTS_SHARE_A_SEQUENCE: u32 = 6;
 pub const CAUSAL_NOT_SPLIT: u32 = 7;
@@ -52,6 +53,11 @@ pub const GRACE_ADDED_TO_E_J: u32 = 43;
 pub const GRACE_CHECKED_BEFORE_TEMPO: u32 = 44;
 pub const GRACE_631_LET_IN: u32 = 45;
 pub const RAISING_MOVES_WHAT_FOLLOWS: u32 = 46;
+pub const GLOBAL_DELAY_FROM_E_J: u32 = 47;
+pub const GLOBAL_STARTS_BEFORE_E_J: u32 = 48;
+pub const GLOBAL_DATE_FROM_ITS_OWN_DELAY: u32 = 49;
+pub const GRACE_HOLDS_GLOBALS: u32 = 50;
+pub const TIGHT_GLOBAL_MOVED_AFTER_SLICING: u32 = 51;
 
 /// The number in the environment, 0 without one; an unreadable one is an error
 /// so that a slip is never taken for a run without a mutant.
@@ -66,7 +72,24 @@ pub fn from_environment() -> Result<u32, String> {
     }
 }
 
+thread_local! {
+    /// The wrong rule that is being tried, 0 for none.
+    static TRIED: Cell<u32> = const { Cell::new(0) };
+}
+
+/// Does the work by this wrong rule, on this thread only.
+pub fn under<T>(number: u32, work: impl FnOnce() -> T) -> T {
+    let before = TRIED.replace(number);
+    let done = work();
+    TRIED.set(before);
+    done
+}
+
 pub fn is(number: u32) -> bool {
+    let tried = TRIED.get();
+    if tried != 0 {
+        return tried == number;
+    }
     static CHOSEN: OnceLock<u32> = OnceLock::new();
     *CHOSEN.get_or_init(|| from_environment().unwrap_or(0)) == number
 }

@@ -3,6 +3,7 @@
 
 use crate::mutant;
 use crate::score::{Action, ErrorWord, Group, Item, Score, Synchrony, What};
+use std::rc::Rc;
 
 /// An action that is played: at which heard event, after how many grains.
 #[derive(Clone, Copy)]
@@ -30,11 +31,39 @@ pub struct Met {
     pub missed: usize,
     /// Its date less E(j).
     pub gap: i128,
-    /// Of a group, how far its body goes.
+    /// Of a group, how far its body goes, and its error word.
     pub length: Option<i128>,
+    pub word: Option<ErrorWord>,
     /// The group around it that was split last, and how many were.
     pub within: Option<ErrorWord>,
     pub deep: usize,
+}
+
+/// A missed global group as it was met.
+#[derive(Clone, Copy)]
+pub struct Global {
+    pub part: u64,
+    pub synchrony: Synchrony,
+    pub slice: bool,
+    /// Its event, and the one at which it is heard.
+    pub i: usize,
+    pub j: usize,
+    /// Its own date less E(j).
+    pub gap: i128,
+    /// The group around it that was split, if it is among the past of one.
+    pub within: Option<ErrorWord>,
+}
+
+impl Global {
+    /// Does it start after E(j)? Before request (v) it started at E(j).
+    pub fn is_moved(&self) -> bool {
+        self.gap > 0
+    }
+}
+
+/// Every missed global group of this performance.
+pub fn globals(score: &Score, heard: &[usize], grace: u64) -> Vec<Global> {
+    run(score, heard, grace).globals
 }
 
 /// Every item of every group that is split in this performance.
@@ -57,6 +86,7 @@ fn run(score: &Score, heard: &[usize], grace: u64) -> Rules {
         part: 0,
         splitting: Vec::new(),
         met: Vec::new(),
+        globals: Vec::new(),
     };
     for &event in heard {
         rules.heard[event - 1] = true;
@@ -75,12 +105,14 @@ struct Rules {
     part: u64,
     splitting: Vec<ErrorWord>,
     met: Vec<Met>,
+    globals: Vec<Global>,
 }
 
-/// What a missed group is: one that is written, or a slice of a tight one.
+/// What a missed group is: one that is written, with its own delay, or a slice of a
+/// tight one.
 #[derive(Clone, Copy, PartialEq)]
 enum Missed {
-    Written,
+    Written(i128),
     Slice,
 }
 
@@ -176,7 +208,7 @@ impl Rules {
                     error: ErrorWord::Causal,
                     body: sequence.items.clone(),
                 };
-                self.missed_group(&group, Missed::Written, i, from);
+                self.missed_group(&group, Missed::Written(0), i, from);
             } else {
                 self.missed_sequence(&sequence.items, i, from);
             }
@@ -196,7 +228,8 @@ impl Rules {
 
     fn heard_action(&mut self, action: &Action, i: usize, d: i128) {
         // Only a body that runs from before E(j) has a delay to be held at 0.
-        let held = mutant::is(mutant::GROUPS_NOT_RAISED);
+        let held =
+            mutant::is(mutant::GROUPS_NOT_RAISED) || mutant::is(mutant::GLOBAL_STARTS_BEFORE_E_J);
         self.triples.push(Triple {
             event: i,
             delay: if held { d.max(0) } else { d },
@@ -258,7 +291,9 @@ impl Rules {
         for (d, item) in summed(items, d) {
             match &item.what {
                 What::Action(action) => self.missed_action(action, i, d),
-                What::Group(group) => self.missed_group(group, Missed::Written, i, d),
+                What::Group(group) => {
+                    self.missed_group(group, Missed::Written(item.delay), i, d);
+                }
             }
         }
     }
@@ -277,17 +312,7 @@ impl Rules {
         let Some(j) = self.next_heard(i) else { return };
         match group.error {
             ErrorWord::Local => {}
-            ErrorWord::Global => {
-                let tight = group.synchrony == Synchrony::Tight;
-                if tight && mutant::is(mutant::SLICE_FROM_THE_MISSED_EVENT) {
-                    self.heard_group(group, i, 0);
-                } else if mutant::is(mutant::GLOBAL_KEEPS_ITS_DATE) {
-                    let late = self.start(i) + d - self.start(j);
-                    self.heard_group(group, j, late.max(0));
-                } else {
-                    self.heard_group(group, j, 0);
-                }
-            }
+            ErrorWord::Global => self.missed_global(group, missed, i, d, j),
             ErrorWord::Causal if mutant::is(mutant::CAUSAL_NOT_SPLIT) => {
                 self.missed_sequence(&group.body, i, d);
             }
@@ -303,6 +328,54 @@ impl Rules {
                 self.splitting.pop();
             }
         }
+    }
+
+    /// "A missed global group is heard at j with delay max(0, E(i) + d - E(j))";
+    /// "E(i) + d is the group's own date, whatever holds it". A slice has delay 0 at
+    /// its event and a past group starts before E(j), so "only a missed top group
+    /// moves".
+    fn missed_global(&mut self, group: &Group, missed: Missed, i: usize, d: i128, j: usize) {
+        let gap = self.start(i) + d - self.start(j);
+        self.globals.push(Global {
+            part: self.part,
+            synchrony: group.synchrony,
+            slice: missed == Missed::Slice,
+            i,
+            j,
+            gap,
+            within: self.splitting.last().copied(),
+        });
+        let tight = group.synchrony == Synchrony::Tight;
+        if tight && mutant::is(mutant::SLICE_FROM_THE_MISSED_EVENT) {
+            self.heard_group(group, i, d);
+            return;
+        }
+        if tight && mutant::is(mutant::TIGHT_GLOBAL_MOVED_AFTER_SLICING) {
+            let first = self.triples.len();
+            self.heard_group(group, j, 0);
+            for triple in &mut self.triples[first..] {
+                triple.delay += gap.max(0);
+            }
+            return;
+        }
+        let delay = if mutant::is(mutant::GLOBAL_DELAY_LOST) {
+            0
+        } else if mutant::is(mutant::GLOBAL_DELAY_FROM_E_J) {
+            d
+        } else if mutant::is(mutant::GLOBAL_STARTS_BEFORE_E_J) {
+            gap
+        } else if mutant::is(mutant::GLOBAL_DATE_FROM_ITS_OWN_DELAY) {
+            let own = match missed {
+                Missed::Written(own) => own,
+                Missed::Slice => 0,
+            };
+            (gap - d + own).max(0)
+        } else if mutant::is(mutant::GRACE_HOLDS_GLOBALS) && gap <= self.grace {
+            0
+        } else {
+            gap.max(0)
+        };
+        self.heard_group(group, j, delay);
     }
 
     /// "An item is past exactly if its date plus g is before E(j)"; the gap is
@@ -365,10 +438,11 @@ impl Rules {
 
     fn meet(&mut self, group: &Group, missed: Missed, j: usize, gap: i128, item: &Item) {
         let before = self.heard[..j - 1].iter().rev();
-        let length = match &item.what {
+        let inner = match &item.what {
             What::Action(_) => None,
-            What::Group(inner) => Some(inner.body.iter().map(|item| item.delay).sum()),
+            What::Group(inner) => Some(inner),
         };
+        let length = |inner: &Rc<Group>| inner.body.iter().map(|item| item.delay).sum();
         self.met.push(Met {
             part: self.part,
             synchrony: group.synchrony,
@@ -377,7 +451,8 @@ impl Rules {
             j,
             missed: before.take_while(|heard| !**heard).count(),
             gap,
-            length,
+            length: inner.map(length),
+            word: inner.map(|inner| inner.error),
             within: self.splitting.last().copied(),
             deep: self.splitting.len(),
         });
@@ -398,7 +473,8 @@ impl Rules {
                 }
                 What::Group(group) => {
                     if !mutant::is(mutant::PARTIAL_DROPS_PAST_GROUPS) {
-                        self.missed_group(group, Missed::Written, i, d - dropped);
+                        let missed = Missed::Written(item.delay);
+                        self.missed_group(group, missed, i, d - dropped);
                     }
                 }
             }

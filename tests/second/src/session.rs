@@ -2,7 +2,7 @@
 //! sends are worked out from the whole history each time.
 
 use crate::mutant;
-use crate::rules::{met, performance, Met, Triple};
+use crate::rules::{globals, met, performance, Global, Met, Triple};
 use crate::score::{self, Refusal, Score};
 
 pub const FASTEST: u64 = 50_400;
@@ -91,7 +91,8 @@ impl Session {
         &self.calls[self.calls.len() - 1]
     }
 
-    fn heard(&self) -> Vec<usize> {
+    /// D: the events heard so far.
+    pub fn heard(&self) -> Vec<usize> {
         self.calls.iter().filter_map(|call| call.heard).collect()
     }
 
@@ -104,6 +105,21 @@ impl Session {
         let mut met = met(&self.score, &self.heard(), self.grace);
         met.retain(|met| self.sounds(met.part));
         met
+    }
+
+    /// The missed global groups of every part, sounding or not, as far as the calls
+    /// went.
+    pub fn globals(&self) -> Vec<Global> {
+        globals(&self.score, &self.heard(), self.grace)
+    }
+
+    /// Is there a missed global group, at any call, whose own date is after E(j)?
+    pub fn moves_a_global(&self) -> bool {
+        let heard = self.heard();
+        (1..=heard.len()).any(|count| {
+            let so_far = globals(&self.score, &heard[..count], self.grace);
+            so_far.iter().any(Global::is_moved)
+        })
     }
 
     pub fn heard_note(&mut self, event: u64, tempo: u64) -> Result<Vec<Sent>, u64> {

@@ -1,6 +1,7 @@
 //! The paper's own small scores, with the values it gives written out by hand.
 
 use crate::extended_words::extended_words;
+use crate::global_words::global_words;
 use crate::graced_words::graced_words;
 use crate::lines::{line, reason, shown, verdict};
 use crate::odd::{self, What};
@@ -178,6 +179,7 @@ pub fn words() -> (u64, u64) {
     text_words(&mut tally);
     extended_words(&mut tally);
     graced_words(&mut tally);
+    global_words(&mut tally);
     (tally.passed, tally.failed)
 }
 
