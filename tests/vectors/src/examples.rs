@@ -10,13 +10,14 @@ const BEAT: u32 = 5_040;
 const LOOSE: u8 = 0;
 const TIGHT: u8 = 1;
 const LOCAL: u8 = 0;
+const GLOBAL: u8 = 1;
 const PARTIAL: u8 = 2;
 const CAUSAL: u8 = 3;
 
 /// Four notes of 2, 1, 1 and 2 beats.
 const NOTES: [u32; 4] = [2 * BEAT, BEAT, BEAT, 2 * BEAT];
 
-pub fn all() -> [(&'static str, Score); 6] {
+pub fn all() -> [(&'static str, Score); 7] {
     [
         ("small", small()),
         ("cellist", cellist()),
@@ -24,6 +25,7 @@ pub fn all() -> [(&'static str, Score); 6] {
         ("duo", duo()),
         ("sweep", sweep()),
         ("early", early()),
+        ("tape", tape()),
     ]
 }
 
@@ -179,4 +181,31 @@ fn early() -> Score {
     ];
     let labels = ["drone", "swell", "brass", "drum", "dim", "flash", "dark", "tutti"];
     Score::new(&[2 * BEAT, 2 * BEAT, 2 * BEAT], &items, &bytes(&labels))
+}
+
+/// Four notes of 2 beats, so note 2 is at 10,080, note 3 at 20,160 and note 4 at
+/// 30,240. Under note 2, in part 0, a group that starts at 30,240, and `lamp`, which
+/// follows it there; in part 1 a group that starts with the note, and a tight one that
+/// starts at 25,200.
+///
+/// Note 2 is missed, and notes 3 and 4 heard, so "a missed global group is heard at j
+/// with delay max(0, E(i) + d - E(j))": the first 10,080 after note 3, the second with
+/// it, the tight one 5,040 after it. `chorus`, at 25,200, stays with note 3; `chorus:
+/// out`, at 35,280, goes to note 4, 5,040 after it. A missed action comes by its own
+/// date: `lamp` 10,080 after note 3.
+fn tape() -> Score {
+    let items = [
+        action(1, 0, 0),
+        group(2, 0, 2).words(LOOSE, GLOBAL).after(4 * BEAT),
+        action(0, 0, 1),
+        action(0, 0, 2).after(BEAT),
+        action(2, 0, 3),
+        group(2, 1, 1).words(LOOSE, GLOBAL),
+        action(0, 1, 4),
+        group(2, 1, 2).words(TIGHT, GLOBAL).after(3 * BEAT),
+        action(0, 1, 5),
+        action(0, 1, 6).after(2 * BEAT),
+    ];
+    let labels = ["hiss", "reel", "reel: fade", "lamp", "bell", "chorus", "chorus: out"];
+    Score::new(&[2 * BEAT; 4], &items, &bytes(&labels))
 }
