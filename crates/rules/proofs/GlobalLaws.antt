@@ -5,20 +5,25 @@ use Prim.Native.Nat.{ℕ, zero, suc, _+_, _-_, _≤_}
 use mathlib.Core.Bool.{Bool, true, false}
 use mathlib.Core.List.{List, [], _++_, append-nil}
 use native.Mathlib.Omega.{arith}
-use native.Mathlib.Nat.{zero-add}
+use native.Mathlib.Nat.{zero-add, add-zero, add-assoc, le-trans}
+use lib.ListN.{length}
 use borrow.Author.Tests.{ltb-true}
+use Rattle.rules.specs.Terms.{Terms}
 use Rattle.rules.specs.Words.{Synchrony, loose, ErrorWord, local, global, partial, causal}
 use Rattle.rules.specs.Score.{Seq, end, action, group}
 use Rattle.rules.specs.Heard.{Taken, heard, missed, unsettled}
-use Rattle.rules.specs.Rules.{Reading, Fate, past, globalStart, missedFate, Line, run, perform, Triple, triples}
+use Rattle.rules.specs.Rules.{Reading, readingOf, Fate, past, globalStart, missedFate, Line, run, perform, Triple, triples}
 use Rattle.rules.specs.Page.{Entry, cast, cues}
 use Rattle.rules.specs.Groups.{performFrom, select, ownDate, pastItems, pastGroups, splitOf, slice, globalDelay, Orderly}
 use Rattle.rules.specs.GroupWise.{sliced, GroupWise}
-use Rattle.rules.specs.Document01.{split01, atOnce, delay01, performed01, NoneLater, no-items, an-action, a-group, cues01, NoneLaterOn, no-entries, an-entry}
+use Rattle.rules.specs.Document01.{split01, atOnce, delay01, performed01, cues01, lastGlobal, NoneLater, InTime, Each, none, one-more}
 use Rattle.rules.proofs.Sift.{triples-append}
 use Rattle.rules.proofs.RuleLaws
+use Rattle.rules.proofs.Dates.{E-mono}
+use Rattle.rules.proofs.HeardLaws.{next-after}
+use Rattle.rules.proofs.Readings.{score-orderly}
 use Rattle.rules.proofs.GroupWiseLaws.{yields, rules-group-wise, one-reading}
-use Rattle.rules.proofs.GraceLaws.{flip, resplit, same-split}
+use Rattle.rules.proofs.GraceLaws.{flip, resplit, same-split, causal-late, partial-late}
 
 -- ---- the later of the two
 
@@ -32,6 +37,41 @@ module _ (R : Reading) (j b s : ℕ) (hear : ℕ → Fate) where
   pub global-late : R .start j ≤ b → missedFate R global j b s hear ≡ hear (b + s)
   unfolding missedFate globalStart
   global-late l = ap hear (omega arith)
+
+  -- There it goes as a causal and a partial group do.
+  pub later-as-causal : R .start j ≤ b → missedFate R global j b s hear ≡ missedFate R causal j b s hear
+  later-as-causal l = global-late l ∙ sym (causal-late R j b s hear (omega arith))
+
+  pub later-as-partial : R .start j ≤ b → missedFate R global j b s hear ≡ missedFate R partial j b s hear
+  later-as-partial l = global-late l ∙ sym (partial-late R j b s hear (omega arith))
+
+-- ---- the last global group of a sequence
+
+none-last : (t m : ℕ) → lastGlobal t end ≤ m
+unfolding lastGlobal
+none-last t m = omega arith
+
+module _ (t d : ℕ) (y : Synchrony) (body rest : Seq) (m : ℕ) where
+  last-own : (e : ErrorWord) → lastGlobal t (group d y e body rest) ≤ m → e ≡ global → t + d ≤ m
+  unfolding lastGlobal
+  last-own global l g = omega arith
+  last-own local l g = let z : _≡_ {A = ℕ} 0 1 = cc in absurd (omega arith)
+  last-own partial l g = let z : _≡_ {A = ℕ} 0 1 = cc in absurd (omega arith)
+  last-own causal l g = let z : _≡_ {A = ℕ} 0 1 = cc in absurd (omega arith)
+
+  last-rest : (e : ErrorWord) → lastGlobal t (group d y e body rest) ≤ m → lastGlobal (t + d) rest ≤ m
+  unfolding lastGlobal
+  last-rest global l = omega arith
+  last-rest local l = l
+  last-rest partial l = l
+  last-rest causal l = l
+
+  last-of-both : (e : ErrorWord) → (e ≡ global → t + d ≤ m) → lastGlobal (t + d) rest ≤ m → lastGlobal t (group d y e body rest) ≤ m
+  unfolding lastGlobal
+  last-of-both global g l = let h : t + d ≤ m = g refl in omega arith
+  last-of-both local g l = l
+  last-of-both partial g l = l
+  last-of-both causal g l = l
 
 -- ---- what is as before
 
@@ -58,48 +98,44 @@ module _ (R : Reading) (n : ℕ) (o : Orderly R n) where
   nothing-as-before i s = refl
 
   -- Where no top global group is missed with its own date after E(j), all is as before.
-  pub as-before : {i s : ℕ} {x : Seq} → NoneLater R i s x → performed01 R i s x ≡ performFrom R i s x
-  unfolding performed01
-  as-before {i} {s} no-items = nothing-as-before i s
-  as-before {i} {s} (an-action {d = d} {m = m} {p = p} {rest = x} w) =
-      ap (λ (z : List Line). perform R i (action (s + d) m p end) ++ z) (as-before w) ∙ sym (RuleLaws.delays-add-up-action R i s d m p x)
-  as-before {i} {s} (a-group {d = d} {y = y} {e = e} {body = b} {rest = x} l w) =
-      ap₂ _++_ (group-as-before i (s + d) y e b l) (as-before w) ∙ sym (RuleLaws.delays-add-up-group R i s d y e b x)
+  pub as-before : (i s : ℕ) (x : Seq) → ((j : ℕ) → R .became i ≡ missed j → lastGlobal (R .start i + s) x ≤ R .start j) → performed01 R i s x ≡ performFrom R i s x
+  unfolding performed01 lastGlobal
+  as-before i s end l = nothing-as-before i s
+  as-before i s (action d m p x) l =
+      ap (λ (z : List Line). perform R i (action (s + d) m p end) ++ z) (as-before i (s + d) x (λ j h. rw (add-assoc (R .start i) s d) at (l j h)))
+      ∙ sym (RuleLaws.delays-add-up-action R i s d m p x)
+  as-before i s (group d y e b x) l =
+      ap₂ _++_ (group-as-before i (s + d) y e b (λ g j h. omega (arith, last-own (R .start i + s) d y b x (R .start j) e (l j h) g)))
+      (as-before i (s + d) x (λ j h. rw (add-assoc (R .start i) s d) at (last-rest (R .start i + s) d y b x (R .start j) e (l j h))))
+      ∙ sym (RuleLaws.delays-add-up-group R i s d y e b x)
 
   -- And a whole page.
-  pub page-as-before : {es : List Entry} → NoneLaterOn R es → cues01 R es ≡ cues R es
+  pub page-as-before : {es : List Entry} → Each (NoneLater R) es → cues01 R es ≡ cues R es
   unfolding cues01 cues
-  page-as-before no-entries = refl
-  page-as-before (an-entry {e = e} w v) =
-      ap₂ _++_ (ap (cast (e .part)) (as-before w ∙ sym (RuleLaws.perform-from-nothing R (e .event) (e .body)))) (page-as-before v)
+  page-as-before none = refl
+  page-as-before (one-more {e = e} l w) =
+      ap₂ _++_ (ap (cast (e .part)) (as-before (e .event) 0 (e .body) (λ j h. rw (add-zero (R .start (e .event))) (l j h)) ∙ sym (RuleLaws.perform-from-nothing R (e .event) (e .body))))
+      (page-as-before w)
 
-  -- ---- what is no missed top group, or starts before E(j)
+  -- ---- what is taken from a body at its dates, groups no later than a limit
 
-  not-missed : (i : ℕ) → ((j : ℕ) → R .became i ≡ missed j → ⊥) → (s : ℕ) (x : Seq) → NoneLater R i s x
-  not-missed i none s end = no-items
-  not-missed i none s (action d m p x) = an-action (not-missed i none (s + d) x)
-  not-missed i none s (group d y e b x) = a-group (λ g j h. absurd (none j h)) (not-missed i none (s + d) x)
-
-  -- Items that are taken from a body at their dates, its groups at dates no later than E(j).
-  selected : (A G : ℕ → Bool) (i : ℕ) → ((t j : ℕ) → G t ≡ true → R .became i ≡ missed j → t ≤ R .start j) →
-      (b u c s : ℕ) (x : Seq) → R .start i + s ≡ c → c ≤ b + u → NoneLater R i s (select ownDate A G b u c x)
-  unfolding select
-  selected A G i l b u c s end e h = no-items
-  selected A G i l b u c s (action d m p x) e h = go (A (b + (u + d))) refl (λ z r. selected A G i l b (u + d) z r x)
+  selected : (A G : ℕ → Bool) (n : ℕ) → ((t : ℕ) → G t ≡ true → t ≤ n) → (b u c : ℕ) (x : Seq) → c ≤ b + u → lastGlobal c (select ownDate A G b u c x) ≤ n
+  unfolding select lastGlobal
+  selected A G n l b u c end h = omega arith
+  selected A G n l b u c (action d m p x) h = go (A (b + (u + d))) refl (λ z. selected A G n l b (u + d) z x)
     where
-      go : (v : Bool) → A (b + (u + d)) ≡ v → ((z r : ℕ) → R .start i + r ≡ z → z ≤ b + (u + d) → NoneLater R i r (select ownDate A G b (u + d) z x)) →
-          NoneLater R i s (select ownDate A G b u c (action d m p x))
-      go true q ih = rw (q, select) (an-action {d = b + (u + d) - c} (ih (b + (u + d)) (s + (b + (u + d) - c)) (omega arith) (omega arith)))
-      go false q ih = rw (q, select) (ih c s e (omega arith))
-  selected A G i l b u c s (group d y w k x) e h = go (G (b + (u + d))) refl (λ z r. selected A G i l b (u + d) z r x)
+      go : (v : Bool) → A (b + (u + d)) ≡ v → ((z : ℕ) → z ≤ b + (u + d) → lastGlobal z (select ownDate A G b (u + d) z x) ≤ n) →
+          lastGlobal c (select ownDate A G b u c (action d m p x)) ≤ n
+      go true q ih = let e : c + (b + (u + d) - c) ≡ b + (u + d) = omega arith in rw (q, select, e) (ih (b + (u + d)) (omega arith))
+      go false q ih = rw (q, select) (ih c (omega arith))
+  selected A G n l b u c (group d y w k x) h = go (G (b + (u + d))) refl (λ z. selected A G n l b (u + d) z x)
     where
-      go : (v : Bool) → G (b + (u + d)) ≡ v → ((z r : ℕ) → R .start i + r ≡ z → z ≤ b + (u + d) → NoneLater R i r (select ownDate A G b (u + d) z x)) →
-          NoneLater R i s (select ownDate A G b u c (group d y w k x))
+      go : (v : Bool) → G (b + (u + d)) ≡ v → ((z : ℕ) → z ≤ b + (u + d) → lastGlobal z (select ownDate A G b (u + d) z x) ≤ n) →
+          lastGlobal c (select ownDate A G b u c (group d y w k x)) ≤ n
       go true q ih =
-          rw (q, select)
-          (a-group {s = s} {d = b + (u + d) - c} {e = w} (λ g j m. let t : b + (u + d) ≤ R .start j = l (b + (u + d)) j q m in omega arith)
-          (ih (b + (u + d)) (s + (b + (u + d) - c)) (omega arith) (omega arith)))
-      go false q ih = rw (q, select) (ih c s e (omega arith))
+          let e : c + (b + (u + d) - c) ≡ b + (u + d) = omega arith in
+          rw (q, select) (last-of-both c (b + (u + d) - c) y k (select ownDate A G b (u + d) (b + (u + d)) x) n w (λ g. omega (arith, l (b + (u + d)) q)) (rw e (ih (b + (u + d)) (omega arith))))
+      go false q ih = rw (q, select) (ih c (omega arith))
 
   -- ---- the sentences
 
@@ -112,24 +148,25 @@ module _ (R : Reading) (n : ℕ) (o : Orderly R n) where
   rules : GroupWise R (splitOf R) (globalDelay R) n now
   rules = rules-group-wise R n o
 
-  same : {i s : ℕ} {x : Seq} → NoneLater R i s x → before i s x ≡ now i s x
-  same w = ap triples (as-before w)
+  same : (i s : ℕ) (x : Seq) → ((j : ℕ) → R .became i ≡ missed j → lastGlobal (R .start i + s) x ≤ R .start j) → before i s x ≡ now i s x
+  same i s x l = ap triples (as-before i s x l)
 
   heard-same : (i : ℕ) → R .became i ≡ heard → (s : ℕ) (x : Seq) → before i s x ≡ now i s x
-  heard-same i h s x = same (not-missed i (λ j m. let z : _≡_ {A = ℕ} 0 1 = cc in absurd (omega arith)) s x)
+  heard-same i h s x = same i s x (λ j m. let z : _≡_ {A = ℕ} 0 1 = cc in absurd (omega arith))
 
   unsettled-same : (i : ℕ) → R .became i ≡ unsettled → (s : ℕ) (x : Seq) → before i s x ≡ now i s x
-  unsettled-same i h s x = same (not-missed i (λ j m. let z : _≡_ {A = ℕ} 0 1 = cc in absurd (omega arith)) s x)
+  unsettled-same i h s x = same i s x (λ j m. let z : _≡_ {A = ℕ} 0 1 = cc in absurd (omega arith))
 
   action-same : (i d m p : ℕ) → before i 0 (action d m p end) ≡ now i 0 (action d m p end)
-  action-same i d m p = same (an-action no-items)
+  unfolding lastGlobal
+  action-same i d m p = same i 0 (action d m p end) (λ j h. none-last (R .start i + 0 + d) (R .start j))
 
   -- A group by another word, and one with no delay.
   other-same : (i d : ℕ) (y : Synchrony) (e : ErrorWord) (x : Seq) → (e ≡ global → ⊥) → before i 0 (group d y e x end) ≡ now i 0 (group d y e x end)
-  other-same i d y e x w = same (a-group (λ g j h. absurd (w g)) no-items)
+  other-same i d y e x w = same i 0 (group d y e x end) (λ j h. last-of-both (R .start i + 0) d y x end (R .start j) e (λ g. absurd (w g)) (none-last (R .start i + 0 + d) (R .start j)))
 
   slice-same : (k : ℕ) (y : Synchrony) (e : ErrorWord) (x : Seq) → before k 0 (group 0 y e x end) ≡ now k 0 (group 0 y e x end)
-  slice-same k y e x = same (a-group (λ g j h. let l : R .start k ≤ R .start j = o .ahead k j h in omega arith) no-items)
+  slice-same k y e x = same k 0 (group 0 y e x end) (λ j h. last-of-both (R .start k + 0) 0 y x end (R .start j) e (λ g. omega (arith, o .ahead k j h)) (none-last (R .start k + 0 + 0) (R .start j)))
 
   slices-same : (e : ErrorWord) (k b : ℕ) (x : Seq) → sliced R now e k b x ≡ sliced R before e k b x
   unfolding sliced
@@ -137,21 +174,23 @@ module _ (R : Reading) (n : ℕ) (o : Orderly R n) where
   slices-same e (suc k) b x = ap₂ _++_ (slices-same e k b x) (sym (slice-same (suc k) loose e (slice R (suc k) b x)))
 
   -- Past items start before E(j).
-  past-ends : (i j : ℕ) → R .became i ≡ missed j → (t k : ℕ) → past R j t ≡ true → R .became i ≡ missed k → t ≤ R .start k
+  past-ends : (i j k : ℕ) → R .became i ≡ missed j → R .became i ≡ missed k → (t : ℕ) → past R j t ≡ true → t ≤ R .start k
   unfolding past
-  past-ends i j h t k p m =
+  past-ends i j k h m t p =
       let e : _≡_ {A = ℕ} j k = cc in
       rw (← e) (omega (arith, ltb-true (t + R .grace) (R .start j) p))
 
   past-same : (i j d : ℕ) (x : Seq) → R .became i ≡ missed j →
       before i 0 (pastItems R j (R .start i + d) (R .start i) x) ≡ now i 0 (pastItems R j (R .start i + d) (R .start i) x)
   unfolding pastItems
-  past-same i j d x h = same (selected (past R j) (past R j) i (past-ends i j h) (R .start i + d) 0 (R .start i) 0 x (omega arith) (omega arith))
+  past-same i j d x h =
+      same i 0 _ (λ k m. rw (add-zero (R .start i)) (selected (past R j) (past R j) (R .start k) (past-ends i j k h m) (R .start i + d) 0 (R .start i) x (omega arith)))
 
   past-groups-same : (i j d : ℕ) (x : Seq) → R .became i ≡ missed j →
       before i 0 (pastGroups R j (R .start i + d) (R .start i) x) ≡ now i 0 (pastGroups R j (R .start i + d) (R .start i) x)
   unfolding pastGroups
-  past-groups-same i j d x h = same (selected (λ t. false) (past R j) i (past-ends i j h) (R .start i + d) 0 (R .start i) 0 x (omega arith) (omega arith))
+  past-groups-same i j d x h =
+      same i 0 _ (λ k m. rw (add-zero (R .start i)) (selected (λ t. false) (past R j) (R .start k) (past-ends i j k h m) (R .start i + d) 0 (R .start i) x (omega arith)))
 
   thrown-away : (i j d : ℕ) (y : Synchrony) (x : Seq) → R .became i ≡ missed j → before i 0 (group d y global x end) ≡ now i 0 (group 0 y global x end)
   unfolding performed01 delay01
@@ -184,7 +223,7 @@ module _ (R : Reading) (n : ℕ) (o : Orderly R n) where
   unfolding splitOf atOnce
   rules-before =
       record {
-        no-items = λ i s. same no-items ∙ rules .no-items i s;
+        no-items = λ i s. same i s end (λ j h. none-last (R .start i + s) (R .start j)) ∙ rules .no-items i s;
         action-first = first-action;
         group-first = first-group;
         nothing-yet = λ i s x h. unsettled-same i h s x ∙ rules .nothing-yet i s x h;
@@ -213,3 +252,13 @@ module _ (R : Reading) (n : ℕ) (o : Orderly R n) where
 
     pub only-document-01 : (P : (i d : ℕ) → Seq → List Triple) → GroupWise R (split01 R) atOnce n P → (i d : ℕ) (x : Seq) → P i d x ≡ triples (performed01 R i d x)
     only-document-01 P p i d x = only-before P (resplit R (split01 R) (splitOf R) atOnce n P (flip (same-split R none)) p) i d x
+
+-- A piece whose top global groups are each written to start by the end of their event sounds as before, whatever is heard: where its event is missed, the next heard one
+-- begins there or later.
+pub never-moved : (terms : Terms) (ds D : List ℕ) → 1 ≤ length ds → {es : List Entry} → Each (InTime ds) es → cues01 (readingOf terms ds D) es ≡ cues (readingOf terms ds D) es
+unfolding readingOf
+never-moved terms ds D some w = page-as-before (readingOf terms ds D) (length ds) (score-orderly terms ds D some) (go w)
+  where
+    go : {es : List Entry} → Each (InTime ds) es → Each (NoneLater (readingOf terms ds D)) es
+    go none = none
+    go (one-more {e = e} l v) = one-more (λ j h. le-trans l (E-mono ds (suc (e .event)) j (next-after D (e .event) j h))) (go v)

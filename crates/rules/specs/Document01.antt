@@ -1,12 +1,12 @@
 -- What document 01 has otherwise than document 02. It splits a missed group with no grace: the rules on terms with a grace of 0 split it so (GraceLaws). And it throws
 -- away the own delay of a missed global group: what the rules were before is what they are now, but for that one delay (GlobalLaws).
 use mathlib.Core.Path.{_≡_}
-use Prim.Native.Nat.{ℕ, _+_, _≤_}
+use Prim.Native.Nat.{ℕ, suc, _+_, _≤_, max}
 use mathlib.Core.Bool.{Bool, false, not}
 use mathlib.Core.List.{List, [], _∷_, _++_}
 use lib.Dec.{ltb}
-use Rattle.rules.specs.Words.{Synchrony, ErrorWord, local, global, partial, causal}
-use Rattle.rules.specs.Score.{Seq, end, action, group}
+use Rattle.rules.specs.Words.{ErrorWord, local, global, partial, causal}
+use Rattle.rules.specs.Score.{Seq, end, action, group, E}
 use Rattle.rules.specs.Heard.{Taken, heard, missed, unsettled}
 use Rattle.rules.specs.Rules.{Reading, Line, perform}
 use Rattle.rules.specs.Page.{Entry, Cue, cast}
@@ -51,19 +51,28 @@ performed01 R i s end = []
 performed01 R i s (action d m p rest) = perform R i (action (s + d) m p end) ++ performed01 R i (s + d) rest
 performed01 R i s (group d y e body rest) = perform R i (group (delay01 (R .became i) e (s + d)) y e body end) ++ performed01 R i (s + d) rest
 
--- No global group of a part's sequence from (i, s) is missed with its own date after E(j).
-pub data NoneLater (R : Reading) (i : ℕ) : ℕ → Seq → Type 0 where
-  no-items : {s : ℕ} → NoneLater R i s end
-  an-action : {s d m p : ℕ} {rest : Seq} → NoneLater R i (s + d) rest → NoneLater R i s (action d m p rest)
-  a-group : {s d : ℕ} {y : Synchrony} {e : ErrorWord} {body rest : Seq} → (e ≡ global → (j : ℕ) → R .became i ≡ missed j → R .start i + (s + d) ≤ R .start j) →
-      NoneLater R i (s + d) rest → NoneLater R i s (group d y e body rest)
-
 -- A page as it was: each part's sequence at each event.
 unfoldable pub cues01 : Reading → List Entry → List Cue
 cues01 R [] = []
 cues01 R (e ∷ es) = cast (e .part) (performed01 R (e .event) 0 (e .body)) ++ cues01 R es
 
--- A page of which that holds at each.
-pub data NoneLaterOn (R : Reading) : List Entry → Type 0 where
-  no-entries : NoneLaterOn R []
-  an-entry : {e : Entry} {es : List Entry} → NoneLater R (e .event) 0 (e .body) → NoneLaterOn R es → NoneLaterOn R (e ∷ es)
+-- The date of the last global group of a sequence that starts at the date t, not of those within its groups; 0 where it has none.
+unfoldable pub lastGlobal : ℕ → Seq → ℕ
+lastGlobal t end = 0
+lastGlobal t (action d m p rest) = lastGlobal (t + d) rest
+lastGlobal t (group d y global body rest) = max (t + d) (lastGlobal (t + d) rest)
+lastGlobal t (group d y local body rest) = lastGlobal (t + d) rest
+lastGlobal t (group d y partial body rest) = lastGlobal (t + d) rest
+lastGlobal t (group d y causal body rest) = lastGlobal (t + d) rest
+
+-- Where a part's sequence is missed, none of its global groups was to start after E(j).
+abbrev pub NoneLater : Reading → Entry → Type 0
+NoneLater R e = (j : ℕ) → R .became (e .event) ≡ missed j → lastGlobal (R .start (e .event)) (e .body) ≤ R .start j
+
+-- None of them is written to start after its event's end, which is where the next event begins.
+abbrev pub InTime : List ℕ → Entry → Type 0
+InTime ds e = lastGlobal (E ds (e .event)) (e .body) ≤ E ds (suc (e .event))
+
+pub data Each (P : Entry → Type 0) : List Entry → Type 0 where
+  none : Each P []
+  one-more : {e : Entry} {es : List Entry} → P e → Each P es → Each P (e ∷ es)

@@ -19,11 +19,11 @@ use Rattle.rules.specs.SmallGrace.{with-grace}
 abbrev pub two-beats : List ℕ
 two-beats = 10080 ∷ 10080 ∷ 10080 ∷ 10080 ∷ []
 
--- The grace; the events' durations; one part's sequence under event 1; the events heard; the triples before and now; and, where it is said, the actions of which
--- nothing is known yet: everywhere else each action is played or dropped. Or a whole page, the events heard, and what became and becomes of each action.
+-- The grace; the events' durations; one part's sequence under event 1; the events heard; the triples before and now; and, where it is said, behind
+-- either the actions of which nothing is known yet: everywhere else each action is played or dropped. Or a whole page, the events heard, and what became and becomes of each action.
 pub data Delayed : Type 0 where
   under : (grace : ℕ) → List ℕ → Seq → List ℕ → (before now : List Triple) → Delayed
-  under-yet : (grace : ℕ) → List ℕ → Seq → List ℕ → (before now : List Triple) → List ℕ → Delayed
+  under-yet : (grace : ℕ) → List ℕ → Seq → List ℕ → (before : List Triple) → List ℕ → (now : List Triple) → List ℕ → Delayed
   page : (grace : ℕ) → List ℕ → List Item → List ℕ → (before now : List Cue) → Delayed
 
 -- Of `events` E is 0, 10,080, 15,120; of `four` it goes on with 20,160; of `five` it is 0, 5,040, 10,080, 15,120, 20,160. The pair is a after 5,040 and b 7,560 later.
@@ -57,7 +57,7 @@ small-globals =
     (triple 3 0 a ∷ triple 3 7560 b ∷ [])
     (triple 3 5040 a ∷ triple 3 12600 b ∷ [])
     -- V7: the same before 3 is heard. Both slices are at 3, and nothing is heard after it: nothing yet.
-    ∷ under-yet 0 events (group 15120 tight global a-then-b end) (2 ∷ []) [] [] (a ∷ b ∷ [])
+    ∷ under-yet 0 events (group 15120 tight global a-then-b end) (2 ∷ []) [] (a ∷ b ∷ []) [] (a ∷ b ∷ [])
     -- V8: E(i) + d is the summed delay's date, whatever stands before the group. c at 10080: a missed action, 0. The group at 10080 + 5040 = 15120: 5040, so a at 10080, b at
     -- 17640.
     ∷ under 0 events (action 10080 c 0 (group 5040 loose global (action 5040 a 2 (action 7560 b 3 end)) end)) (2 ∷ [])
@@ -140,20 +140,22 @@ small-globals =
     (2 ∷ [])
     (cue 1 0 a (played 2 0) ∷ cue 2 0 b (played 2 10080) ∷ cue 4 1 c (played 2 0) ∷ [])
     (cue 1 0 a (played 2 10080) ∷ cue 2 0 b (played 2 10080) ∷ cue 4 1 c (played 2 2520) ∷ [])
+    -- V25: V20 before 3 is heard. a's slice is at 3, and nothing is heard after it: nothing yet. Before, a went to 2, at 0.
+    ∷ under-yet 0 events (group 25200 tight global (action 0 a 1 end) end) (2 ∷ []) (triple 2 0 a ∷ []) [] [] (a ∷ [])
     ∷ []
 
 -- What the rules gave and give, and what a row wants of them.
 unfoldable pub globalGives : Delayed → List Result
 globalGives (under g ds x D l k) = resultOf (performed01 (readingOf (with-grace g) ds D) 1 0 x) ∷ resultOf (perform (readingOf (with-grace g) ds D) 1 x) ∷ []
-globalGives (under-yet g ds x D l k w) = resultOf (performed01 (readingOf (with-grace g) ds D) 1 0 x) ∷ resultOf (perform (readingOf (with-grace g) ds D) 1 x) ∷ []
+globalGives (under-yet g ds x D l v k w) = resultOf (performed01 (readingOf (with-grace g) ds D) 1 0 x) ∷ resultOf (perform (readingOf (with-grace g) ds D) 1 x) ∷ []
 globalGives (page g ds is D l k) = of-page (cues01 (readingOf (with-grace g) ds D) (entries is)) ∷ of-page (cues (readingOf (with-grace g) ds D) (entries is)) ∷ []
 
 unfoldable pub globalWants : Delayed → List Result
 globalWants (under g ds x D l k) = of-sequence l [] ∷ of-sequence k [] ∷ []
-globalWants (under-yet g ds x D l k w) = of-sequence l w ∷ of-sequence k w ∷ []
+globalWants (under-yet g ds x D l v k w) = of-sequence l v ∷ of-sequence k w ∷ []
 globalWants (page g ds is D l k) = of-page l ∷ of-page k ∷ []
 
--- V1 to V24.
+-- V1 to V25.
 pub small-globals-right : map globalGives small-globals ≡ map globalWants small-globals
 unfolding globalGives globalWants cues01 performed01 delay01 resultOf ifUndecided undecidedIn triples keep perform topHolder run enter outcomeOf fateOf heardFate slicedFate missedFate globalStart past futureDate readingOf taken lastBy more E total pick cues cast entries entriesOf runLength goesOn sequenceOf synchronyOf errorOf
 small-globals-right = refl
