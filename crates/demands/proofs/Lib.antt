@@ -23,5 +23,6 @@ pub mod Demand1
 pub mod TextOutcomes
 pub mod Demand2
 pub mod Demand2Sent
+pub mod AsBefore
 pub mod Demand3
 pub mod TextRuns

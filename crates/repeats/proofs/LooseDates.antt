@@ -102,7 +102,7 @@ module _ (R : Reading) (i : Item) (period p : ℕ) (e : ErrorWord) (j b : ℕ) (
       rw (pass-start R i period e j b k, own, n) (loose-later R j (k * period) (k * (1 + items body)) y w w b 0 (p + 1) l)
       ∙ ap (map (laterBy (k * (1 + items body)) (k * period))) (sym (first-pass body))
 
--- ---- a loop whose event was missed, by the word global: it is heard at j instead, at its own date or at E(j), and its passes are counted from there
+-- ---- a loop whose event was missed, by the word global: it is heard at j instead, at the later of its own date and E(j), and its passes are counted from there
 
 pub missed-global-passes : (R : Reading) (i : Item) (period p n : ℕ) (y : Synchrony) (j b : ℕ) (body : Unfolded) →
     run R (missedGroup y global j b) 0 (sequence p (passes i period 0 n body)) ≡ passRuns R (heardGroup y global j (globalStart R j b)) i period p body 0 n

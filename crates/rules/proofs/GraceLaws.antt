@@ -1,5 +1,5 @@
--- With a grace of 0 the rules split a missed group as document 01 does: split so, they keep to its sentences, and nothing else does. And what no grace changes: the
--- actions of a missed causal group, and all that is performed where no event is missed. Assumes nothing.
+-- With a grace of 0 the rules split a missed group as document 01 does: split so, and with document 02's delay of a missed global group, they keep to its sentences, and
+-- nothing else does. And what no grace changes: the actions of a missed causal group, and all that is performed where no event is missed. Assumes nothing.
 use mathlib.Core.Path.{_≡_, refl, ap, ap₂, sym, _∙_}
 use Prim.Native.Nat.{ℕ, _+_, _-_, _≤_}
 use mathlib.Core.Bool.{Bool, true, false, not}
@@ -15,7 +15,7 @@ use Rattle.rules.specs.Rules.{Reading, readingOf, Fate, heardAt, missedB
 use Rattle.rules.specs.Page.{Entry, cast, cues}
 use Rattle.rules.specs.Groups.{performFrom, select, ownDate, pastItems, pastGroups, future, futureItems, Split, splitOf, globalDelay, Orderly}
 use Rattle.rules.specs.GroupWise.{GroupWise}
-use Rattle.rules.specs.Document01.{before, notBefore, split01}
+use Rattle.rules.specs.Document01.{past01, future01, split01}
 use Rattle.rules.proofs.PastLaws.{past-01, future-01, late-future, future-raised, future-kept}
 use Rattle.rules.proofs.Dates.{lastBy-some, lastBy-fits}
 use Rattle.rules.proofs.Readings.{Among, Within, no-entries, entry-within}
@@ -80,13 +80,13 @@ resplit R S T G n P a p =
 -- ---- a grace of 0
 
 module _ (R : Reading) (none : R .grace ≡ 0) where
-  future-same : (j t : ℕ) → future R j t ≡ notBefore R j t
-  unfolding future notBefore
+  future-same : (j t : ℕ) → future R j t ≡ future01 R j t
+  unfolding future future01
   future-same j t = ap not (past-01 R j t none)
 
-  own : (j t : ℕ) → notBefore R j t ≡ true → futureDate R j t ≡ ownDate t
-  unfolding notBefore
-  own j t e = future-01 R j t (go (before R j t) e)
+  own : (j t : ℕ) → future01 R j t ≡ true → futureDate R j t ≡ ownDate t
+  unfolding future01
+  own j t e = future-01 R j t (go (past01 R j t) e)
     where
       go : (v : Bool) → not v ≡ true → v ≡ false
       go true q = sym q
@@ -103,12 +103,12 @@ module _ (R : Reading) (none : R .grace ≡ 0) where
 
   module _ (n : ℕ) (o : Orderly R n) where
     -- With no grace the rules keep to document 01's sentences, with document 02's delay of a missed global group,
-    pub rules-01 : GroupWise R (split01 R) (globalDelay R) n (yields R n o)
-    rules-01 = resplit R (splitOf R) (split01 R) (globalDelay R) n (yields R n o) same-split (rules-group-wise R n o)
+    pub rules-split-01 : GroupWise R (split01 R) (globalDelay R) n (yields R n o)
+    rules-split-01 = resplit R (splitOf R) (split01 R) (globalDelay R) n (yields R n o) same-split (rules-group-wise R n o)
 
     -- and whatever keeps to these yields just their triples.
-    pub only-01 : (P : (i d : ℕ) → Seq → List Triple) → GroupWise R (split01 R) (globalDelay R) n P → (i d : ℕ) (x : Seq) → P i d x ≡ triples (performFrom R i d x)
-    only-01 P p i d x = only-reading R n o P (resplit R (split01 R) (splitOf R) (globalDelay R) n P (flip same-split) p) i d x
+    pub only-split-01 : (P : (i d : ℕ) → Seq → List Triple) → GroupWise R (split01 R) (globalDelay R) n P → (i d : ℕ) (x : Seq) → P i d x ≡ triples (performFrom R i d x)
+    only-split-01 P p i d x = only-reading R n o P (resplit R (split01 R) (splitOf R) (globalDelay R) n P (flip same-split) p) i d x
 
 -- ---- what no grace changes
 

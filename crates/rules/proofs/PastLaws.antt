@@ -7,7 +7,7 @@ use native.Mathlib.Omega.{arith}
 use lib.Dec.{ltb}
 use borrow.Author.Tests.{ltb-false, le-ltb, lt-ltb}
 use Rattle.rules.specs.Rules.{Reading, past, futureDate}
-use Rattle.rules.specs.Document01.{before}
+use Rattle.rules.specs.Document01.{past01}
 
 module _ (R : Reading) (j : ℕ) where
   -- No past item comes after a future one.
@@ -56,12 +56,12 @@ module _ (R : Reading) (j : ℕ) where
   future-kept t l = omega arith
 
   -- With no grace past is what starts before E(j), so that a future item keeps its date.
-  pub past-01 : (t : ℕ) → R .grace ≡ 0 → past R j t ≡ before R j t
-  unfolding past before
+  pub past-01 : (t : ℕ) → R .grace ≡ 0 → past R j t ≡ past01 R j t
+  unfolding past past01
   past-01 t e = let z : t + R .grace ≡ t = omega arith in ap (λ (u : ℕ). ltb u (R .start j)) z
 
-  pub future-01 : (t : ℕ) → before R j t ≡ false → futureDate R j t ≡ t
-  unfolding before
+  pub future-01 : (t : ℕ) → past01 R j t ≡ false → futureDate R j t ≡ t
+  unfolding past01
   future-01 t p = future-kept t (ltb-false t (R .start j) p)
 
 -- Of a reading they ask for E(j) and the grace alone.

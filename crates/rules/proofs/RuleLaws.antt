@@ -1,4 +1,4 @@
--- The rules of performance in document 01's words, group by group: each is a law of `perform`, which goes item by item. E(i) is R .start i, and M(i) the j of
+-- The rules of performance in the words of documents 01 and 02, group by group: each is a law of `perform`, which goes item by item. E(i) is R .start i, and M(i) the j of
 -- `missed j`. An item is performed alone at its summed delay d (`delays-add-up`), and each law leads to performances that the laws speak of again, down to actions.
 -- They hold of every orderly reading, so of every score whatever was heard (`score-orderly` of Readings); Bodies has them at any depth. Assumes nothing.
 use mathlib.Core.Path.{_≡_, refl, ap, ap₂, sym, _∙_}

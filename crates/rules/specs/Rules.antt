@@ -1,6 +1,6 @@
 -- The rules of performance, one item at a time. What happens to an item depends on the groups around it, on its ideal date, E(i) + d, and on the grace: loose keeps the
--- event that it hangs on; tight, causal and partial move it and keep the date, but what is within the grace starts at E(j); and global changes the date. RuleLaws has
--- document 01's sentences, group by group.
+-- event that it hangs on; tight, causal and partial move it and keep the date, but what is within the grace starts at E(j); and global changes the dates of a group that
+-- was to start before E(j). RuleLaws has the sentences of documents 01 and 02, group by group.
 use Prim.Native.Nat.{ℕ, _+_, _-_, max}
 use mathlib.Core.Bool.{Bool}
 use mathlib.Core.List.{List, [], _∷_, _++_}

@@ -1,16 +1,16 @@
 -- A fourth table of small scores, with missed global groups that have a delay of their own, and one theorem over it: what they give now, and what they gave before
 -- document 02 (v). Above each row stands its working from the sentences of documents 01 and 02. Assumes nothing.
 use mathlib.Core.Path.{_≡_, refl}
-use Prim.Native.Nat.{ℕ, _+_}
-use mathlib.Core.List.{List, [], _∷_, _++_, map}
+use Prim.Native.Nat.{ℕ}
+use mathlib.Core.List.{List, [], _∷_, map}
 use Rattle.page.specs.declared.Item.{Item}
 use Rattle.base.specs.Tests.{pick}
 use Rattle.rules.specs.Words.{loose, tight, local, global, partial, causal, synchronyOf, errorOf}
 use Rattle.rules.specs.Score.{Seq, end, action, group, total, E, more, lastBy}
 use Rattle.rules.specs.Heard.{taken}
-use Rattle.rules.specs.Rules.{Outcome, played, dropped, Triple, triple, triples, keep, perform, topHolder, run, enter, outcomeOf, fateOf, heardFate, slicedFate, missedFate, globalStart, past, futureDate, readingOf}
+use Rattle.rules.specs.Rules.{played, Triple, triple, triples, keep, perform, topHolder, run, enter, outcomeOf, fateOf, heardFate, slicedFate, missedFate, globalStart, past, futureDate, readingOf}
 use Rattle.rules.specs.Page.{Cue, cues, cast, entries, entriesOf, runLength, goesOn, sequenceOf}
-use Rattle.rules.specs.Document01.{delay01, performed01, cues01}
+use Rattle.rules.specs.Document01.{delayBefore, performedBefore, cuesBefore}
 use Rattle.rules.specs.Small.{events, a, b, a-then-b}
 use Rattle.rules.specs.SmallMore.{c, d, four, five, itemOf, cue, Result, of-page, resultOf, undecidedIn, ifUndecided, of-sequence}
 use Rattle.rules.specs.SmallGrace.{with-grace}
@@ -146,9 +146,9 @@ small-globals =
 
 -- What the rules gave and give, and what a row wants of them.
 unfoldable pub globalGives : Delayed → List Result
-globalGives (under g ds x D l k) = resultOf (performed01 (readingOf (with-grace g) ds D) 1 0 x) ∷ resultOf (perform (readingOf (with-grace g) ds D) 1 x) ∷ []
-globalGives (under-yet g ds x D l v k w) = resultOf (performed01 (readingOf (with-grace g) ds D) 1 0 x) ∷ resultOf (perform (readingOf (with-grace g) ds D) 1 x) ∷ []
-globalGives (page g ds is D l k) = of-page (cues01 (readingOf (with-grace g) ds D) (entries is)) ∷ of-page (cues (readingOf (with-grace g) ds D) (entries is)) ∷ []
+globalGives (under g ds x D l k) = resultOf (performedBefore (readingOf (with-grace g) ds D) 1 0 x) ∷ resultOf (perform (readingOf (with-grace g) ds D) 1 x) ∷ []
+globalGives (under-yet g ds x D l v k w) = resultOf (performedBefore (readingOf (with-grace g) ds D) 1 0 x) ∷ resultOf (perform (readingOf (with-grace g) ds D) 1 x) ∷ []
+globalGives (page g ds is D l k) = of-page (cuesBefore (readingOf (with-grace g) ds D) (entries is)) ∷ of-page (cues (readingOf (with-grace g) ds D) (entries is)) ∷ []
 
 unfoldable pub globalWants : Delayed → List Result
 globalWants (under g ds x D l k) = of-sequence l [] ∷ of-sequence k [] ∷ []
@@ -157,5 +157,5 @@ globalWants (page g ds is D l k) = of-page l ∷ of-page k ∷ []
 
 -- V1 to V25.
 pub small-globals-right : map globalGives small-globals ≡ map globalWants small-globals
-unfolding globalGives globalWants cues01 performed01 delay01 resultOf ifUndecided undecidedIn triples keep perform topHolder run enter outcomeOf fateOf heardFate slicedFate missedFate globalStart past futureDate readingOf taken lastBy more E total pick cues cast entries entriesOf runLength goesOn sequenceOf synchronyOf errorOf
+unfolding globalGives globalWants cuesBefore performedBefore delayBefore resultOf ifUndecided undecidedIn triples keep perform topHolder run enter outcomeOf fateOf heardFate slicedFate missedFate globalStart past futureDate readingOf taken lastBy more E total pick cues cast entries entriesOf runLength goesOn sequenceOf synchronyOf errorOf
 small-globals-right = refl

@@ -1,5 +1,5 @@
--- A second table of small scores, for what P1 to P12 leave open, and one theorem over it. Above each row stands its working from document 01's sentences.
--- Assumes nothing.
+-- A second table of small scores, for what P1 to P12 leave open, and one theorem over it. Above each row stands its working from the sentences of documents 01 and
+-- 02. Assumes nothing.
 use mathlib.Core.Path.{_≡_, refl}
 use Prim.Native.Nat.{ℕ}
 use mathlib.Core.List.{List, [], _∷_, map}
