@@ -5,7 +5,8 @@ use mathlib.Core.Bool.{Bool, true, false}
 use mathlib.Core.List.{List, [], _∷_}
 use Prim.Native.Nat.{ℕ}
 use native.Mathlib.Omega.{arith}
-use Rattle.base.specs.Checks.{Check, fine, refused, need, firstFault, renamed}
+use Rattle.base.specs.Checks.{Check, fine, refused, need, firstFault, isFine, renamed}
+use Rattle.base.specs.Tests.{every}
 use borrow.Author.Tests.{le-leb, lt-leb, lt-ltb, le-ltb}
 use Rattle.base.proofs.TestLaws.{told-true, told-false, between-in, between-under, between-over, tests}
 
@@ -43,6 +44,22 @@ module _ {X : Type 0} where
 
   pub first-holds : (b : Bool) (x : X) (l : List (Check X)) → firstFault (need b x ∷ l) ≡ fine → b ≡ true
   first-holds b x l e = need-fine b x (first-head _ l e)
+
+  pub fine-told : (v : Check X) → isFine v ≡ true → v ≡ fine
+  unfolding isFine
+  fine-told fine e = refl
+  fine-told (refused x) e = let z : _≡_ {A = ℕ} 0 1 = cc in absurd (omega arith)
+
+  -- ---- there is no fault where every test holds
+
+  pub fine-more : (b : Bool) (x : X) (l : List (Check X)) (bs : List Bool) → isFine (firstFault l) ≡ every bs → isFine (firstFault (need b x ∷ l)) ≡ every (b ∷ bs)
+  unfolding isFine firstFault need every
+  fine-more true x l bs e = e
+  fine-more false x l bs e = refl
+
+pub fine-end : (X : Type 0) → isFine (firstFault {X = X} []) ≡ every []
+unfolding isFine firstFault every
+fine-end X = refl
 
 -- ---- a check whose fault is told by another name
 

@@ -2,7 +2,7 @@
 -- Assumes nothing.
 use mathlib.Core.Path.{_≡_, refl, sym, _∙_}
 use mathlib.Core.Bool.{Bool, true, false, not}
-use mathlib.Core.List.{List, [], _∷_}
+use mathlib.Core.List.{List, [], _∷_, _++_}
 use Prim.Native.Nat.{ℕ, _<_, _≤_}
 use native.Mathlib.Omega.{arith}
 use lib.Dec.{leb}
@@ -65,6 +65,13 @@ pub every-rest : (b : Bool) (bs : List Bool) → every (b ∷ bs) ≡ true → e
 unfolding every
 every-rest true bs p = p
 every-rest false bs p = let z : _≡_ {A = ℕ} 0 1 = cc in absurd (omega arith)
+
+-- the tests of two lists
+pub every-both : (bs cs : List Bool) → every (bs ++ cs) ≡ every (every bs ∷ every cs ∷ [])
+unfolding every
+every-both [] cs = every-last (every cs) (every cs) refl
+every-both (true ∷ bs) cs = every-both bs cs
+every-both (false ∷ bs) cs = refl
 
 pub between-low : (lo hi x : ℕ) → between lo hi x ≡ true → lo ≤ x
 unfolding between

@@ -18,6 +18,11 @@ firstFault [] = fine
 firstFault (fine ∷ l) = firstFault l
 firstFault (refused x ∷ l) = refused x
 
+-- Whether there is none.
+unfoldable pub isFine : {X : Type 0} → Check X → Bool
+isFine fine = true
+isFine (refused x) = false
+
 -- The same check, its fault told by another name.
 unfoldable pub renamed : {X Y : Type 0} → (X → Y) → Check X → Check Y
 renamed g fine = fine

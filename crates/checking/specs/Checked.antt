@@ -3,7 +3,7 @@ use Prim.Native.Nat.{ℕ}
 use mathlib.Core.Path.{_≡_}
 use mathlib.Core.Bool.{Bool, true, false}
 use mathlib.Core.List.{List, [], _∷_, _++_}
-use Rattle.base.specs.Checks.{Check, fine, refused}
+use Rattle.base.specs.Checks.{Check, fine, refused, isFine}
 use Rattle.ascii.specs.Words.{space, newline}
 use Rattle.ascii.specs.Decimals.{decimal}
 use Rattle.ascii.specs.Text.{bytesOf}
@@ -38,11 +38,6 @@ countsTold f =
 -- `old.bin: accepted, 256 events, 2048 items, 1024 actions, 512 messages, parts 0 3 15`
 unfoldable pub acceptedLine : (name file : List ℕ) → List ℕ
 acceptedLine name f = name ++ (bytesOf ": accepted, " ++ (countsTold f ++ (partsTold (partsIn (decode f .items)) ++ (newline ∷ []))))
-
--- Whether a check found nothing.
-unfoldable pub isFine : Check Fault → Bool
-isFine fine = true
-isFine (refused x) = false
 
 -- By what the check found: the line of an accepted file, or of the refusal.
 unfoldable pub lineBy : Check Fault → (name file : List ℕ) → List ℕ

@@ -2,9 +2,24 @@
 use Rattle.base.specs.Checks.{Check, fine, refused}
 use Rattle.contents.specs.declared.Fault.{Fault}
 use Rattle.contents.specs.declared.Fault.the-variants.{FileShort, BadCount, BadOffset, BadLength, BadEvent, BadItem, BadMessage, TextLeft, NoMessage}
+use Rattle.contents.specs.declared.ItemRule.{ItemRule}
+use Rattle.contents.specs.declared.ItemRule.the-variants as rule
 use Rattle.contents.specs.declared.Verdict.{Verdict}
 use Rattle.contents.specs.declared.Verdict.the-variants.{Fine, Refused}
 use Rattle.contents.specs.declared.Reply.{Reply}
+
+-- The rules of an item, in the order in which they are checked: rule, number, and the offset of its field in the item. "Refusals: 20 to 27 in that order, where 7 stood"; "the place of
+-- the field instead of the item (for nesting the field last, for the number of actions still the item's first byte)"
+unfoldable pub ruleRow : ItemRule → Reply
+ruleRow rule.Kind = record { number = 20; place = 0 }
+ruleRow rule.Synchrony = record { number = 21; place = 1 }
+ruleRow rule.ErrorWord = record { number = 21; place = 2 }
+ruleRow rule.Part = record { number = 22; place = 3 }
+ruleRow rule.Delay = record { number = 23; place = 4 }
+ruleRow rule.Event = record { number = 24; place = 8 }
+ruleRow rule.Nesting = record { number = 25; place = 10 }
+ruleRow rule.Message = record { number = 26; place = 10 }
+ruleRow rule.Actions = record { number = 27; place = 0 }
 
 -- "No. | When | Place", row by row
 unfoldable pub faultRow : Fault → Reply
@@ -13,7 +28,7 @@ faultRow (BadCount at) = record { number = 4; place = at }
 faultRow (BadOffset at) = record { number = 5; place = at }
 faultRow BadLength = record { number = 5; place = 0 }
 faultRow (BadEvent at) = record { number = 6; place = at }
-faultRow (BadItem at) = record { number = 7; place = at }
+faultRow (BadItem r at) = record { number = ruleRow r .number; place = at }
 faultRow (BadMessage at) = record { number = 8; place = at }
 faultRow TextLeft = record { number = 8; place = 24 }
 faultRow NoMessage = record { number = 15; place = 0 }

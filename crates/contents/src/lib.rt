@@ -21,6 +21,7 @@ pub mod limits;
 mod replies;
 
 pub use replies::replied;
+pub use replies::rule_row;
 
 // What can be wrong with a file, and with a message asked of it: one case for each row of the reply table.
 pub enum Fault {
@@ -34,14 +35,27 @@ pub enum Fault {
     BadLength,
     // "an event's duration"
     BadEvent(usize),
-    // "an item against the rules; also the 1,025th action"
-    BadItem(usize),
+    // An item's rule, with the place of its field.
+    BadItem(ItemRule, usize),
     // "a message entry or its label bytes"
     BadMessage(usize),
     // "entries right, text not used up"
     TextLeft,
     // "no such message"
     NoMessage,
+}
+
+// Which rule of an item is broken, in the order in which they are checked; the words are two fields.
+pub enum ItemRule {
+    Kind,
+    Synchrony,
+    ErrorWord,
+    Part,
+    Delay,
+    Event,
+    Nesting,
+    Message,
+    Actions,
 }
 
 // What a check of a file, or of a part of it, finds.

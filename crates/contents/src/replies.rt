@@ -1,7 +1,8 @@
 // The reply table: the number and the place of every fault.
 ghost use mathlib.Core.Path.{_≡_};
-ghost use Rattle.contents.specs.Replies.{faultRow, replyOf};
+ghost use Rattle.contents.specs.Replies.{ruleRow, faultRow, replyOf};
 use crate::Fault;
+use crate::ItemRule;
 use crate::Reply;
 use crate::Verdict;
 
@@ -9,6 +10,23 @@ fn row(number: usize, place: usize) -> Reply
     ensures { λ r. ⌜ r ≡ record { number = number; place = place } ⌝ }
 {
     Reply { number, place }
+}
+
+// An item's rule: its number, and where its field stands in the item.
+pub fn rule_row(r: ItemRule) -> Reply
+    ensures { λ out. ⌜ out ≡ ruleRow r ⌝ }
+{
+    match r {
+        ItemRule::Kind => row(20, 0),
+        ItemRule::Synchrony => row(21, 1),
+        ItemRule::ErrorWord => row(21, 2),
+        ItemRule::Part => row(22, 3),
+        ItemRule::Delay => row(23, 4),
+        ItemRule::Event => row(24, 8),
+        ItemRule::Nesting => row(25, 10),
+        ItemRule::Message => row(26, 10),
+        ItemRule::Actions => row(27, 0),
+    }
 }
 
 fn fault_row(x: Fault) -> Reply
@@ -20,7 +38,7 @@ fn fault_row(x: Fault) -> Reply
         Fault::BadOffset(at) => row(5, at),
         Fault::BadLength => row(5, 0),
         Fault::BadEvent(at) => row(6, at),
-        Fault::BadItem(at) => row(7, at),
+        Fault::BadItem(rule, at) => row(rule_row(rule).number, at),
         Fault::BadMessage(at) => row(8, at),
         Fault::TextLeft => row(8, 24),
         Fault::NoMessage => row(15, 0),

@@ -1,7 +1,7 @@
 -- Laws of the walk over a list of items: one step of it, and that the bound of the recursion does not matter.
 -- Assumes nothing.
 use mathlib.Core.Path.{_≡_, refl, sym, _∙_}
-use mathlib.Core.Bool.{Bool, true, false}
+use mathlib.Core.Bool.{false}
 use mathlib.Core.List.{List, [], _∷_}
 use Prim.Native.Nat.{ℕ, zero, suc, _+_, _*_, _≤_}
 use native.Mathlib.Omega.{arith}
@@ -10,13 +10,15 @@ use lib.Seq.{length-take-le}
 use borrow.Author.Tests.{eq-eqb, ne-eqb}
 use Rattle.page.specs.declared.Item.{Item}
 use Rattle.base.specs.Tests.{pick}
-use Rattle.contents.specs.declared.Fault.the-variants.{BadItem}
+use Rattle.base.specs.Checks.{Check, fine, refused, isFine}
+use Rattle.contents.specs.declared.ItemRule.{ItemRule}
 use Rattle.contents.specs.declared.Counts.{Counts}
 use Rattle.contents.specs.Limits.{itemSize, mostActions}
 use Rattle.items.specs.declared.walk.Walk.{Walk}
 use Rattle.items.specs.declared.walk.Walk.the-variants.{Actions, Stop}
 use Rattle.items.specs.declared.Setting.{Setting}
-use Rattle.items.specs.Items.{itemRight, withinOf, ownOf, next, inside, onward, walkOf, walked}
+use Rattle.items.specs.Items.{itemRight, withinOf, ownOf, next, inside, onward, onFrom, walkOf, walked}
+use Rattle.items.specs.Inner.{brokenBy, faultAt}
 use Rattle.items.proofs.Walked.{right-item, within-left, walk-walked, walked-few}
 
 -- ---- an action and a group
@@ -47,6 +49,13 @@ unfolding onward
 onward-same v (Actions n) a b e p = rw e (p n)
 onward-same v (Stop x) a b e p = rw e
 
+-- ---- a wrong item stops the walk
+
+stop-here : (v : Check ItemRule) (at : ℕ) (w : Walk) → isFine v ≡ false → onFrom v at w ≡ Stop (faultAt at v)
+unfolding isFine onFrom faultAt brokenBy
+stop-here fine at w e = let z : _≡_ {A = ℕ} 0 1 = cc in absurd (omega arith)
+stop-here (refused r) at w e = refl
+
 -- ---- the items within and after are no more than those left
 
 module _ (x k : ℕ) (is : List Item) (le : length is ≤ x) where
@@ -59,11 +68,11 @@ module _ (x k : ℕ) (is : List Item) (le : length is ≤ x) where
 -- ---- any bound that is enough walks the same
 
 module _ (c : Counts) (x y : ℕ) (same : (at : ℕ) (is : List Item) (h : Setting) (n : ℕ) → length is ≤ x → length is ≤ y → walkOf x c at is h n ≡ walkOf y c at is h n) where
-  bound-step : (at : ℕ) (i : Item) (is : List Item) (h : Setting) (n : ℕ) → length is ≤ x → length is ≤ y → (t : Bool) → itemRight i c h (length is) n ≡ t
+  bound-step : (at : ℕ) (i : Item) (is : List Item) (h : Setting) (n : ℕ) → length is ≤ x → length is ≤ y → (v : Check ItemRule) → itemRight i c h (length is) n ≡ v
       → walkOf (suc x) c at (i ∷ is) h n ≡ walkOf (suc y) c at (i ∷ is) h n
-  unfolding walkOf pick
-  bound-step at i is h n p q false e = rw e
-  bound-step at i is h n p q true e =
+  unfolding walkOf onFrom
+  bound-step at i is h n p q (refused r) e = rw e
+  bound-step at i is h n p q fine e =
       let l = within-left (right-item i c h (length is) n e) in
       rw e
       (onward-same _ _ _ _ (same (at + itemSize) (take (withinOf i) is) _ _ (take-few x (withinOf i) is p l) (take-few y (withinOf i) is q l))
@@ -86,20 +95,20 @@ unfolding walked walkOf
 walked-end c at h n = refl
 
 module _ (c : Counts) (at : ℕ) (i : Item) (is : List Item) (h : Setting) (n : ℕ) where
-  pub walked-right : itemRight i c h (length is) n ≡ true
+  pub walked-right : itemRight i c h (length is) n ≡ fine
       → walked c at (i ∷ is) h n
       ≡ onward (walked c (at + itemSize) (take (withinOf i) is) (inside i h) (n + ownOf i))
       (λ m. walked c (at + itemSize + itemSize * withinOf i) (drop (withinOf i) is) (next i h) m)
-  unfolding walked walkOf pick
+  unfolding walked walkOf onFrom
   walked-right e =
       let l = within-left (right-item i c h (length is) n e) in
       rw e
       (onward-same _ _ _ _ (bound c (length is) (length (take (withinOf i) is)) (at + itemSize) (take (withinOf i) is) _ _ (take-few (length is) (withinOf i) is (omega arith) l) (omega arith))
       (λ m. bound c (length is) (length (drop (withinOf i) is)) _ (drop (withinOf i) is) _ m (drop-few (length is) (withinOf i) is (omega arith)) (omega arith)))
 
-  pub walked-wrong : itemRight i c h (length is) n ≡ false → walked c at (i ∷ is) h n ≡ Stop (BadItem at)
-  unfolding walked walkOf pick
-  walked-wrong e = rw e
+  pub walked-wrong : isFine (itemRight i c h (length is) n) ≡ false → walked c at (i ∷ is) h n ≡ Stop (faultAt at (itemRight i c h (length is) n))
+  unfolding walked walkOf
+  walked-wrong e = stop-here (itemRight i c h (length is) n) at _ e
 
 -- ---- a walk that ends has met no 1,025th action
 

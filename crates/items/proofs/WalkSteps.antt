@@ -1,6 +1,6 @@
 -- One item judged and one step of the walk through the file's bytes, in the code's own terms.
 -- Assumes nothing.
-use mathlib.Core.Path.{_≡_, refl, sym, _∙_}
+use mathlib.Core.Path.{_≡_, refl, sym, ap, _∙_}
 use mathlib.Core.Bool.{Bool, true, false, not}
 use mathlib.Core.List.{List}
 use Prim.Native.Nat.{ℕ, _+_, _-_, _*_, _<_, _≤_}
@@ -9,18 +9,24 @@ use lib.ListN.{length}
 use borrow.Author.Needs.{needs}
 use Rattle.page.specs.declared.Item.{Item}
 use Rattle.base.specs.Tests.{pick}
+use Rattle.base.specs.Checks.{fine, isFine}
 use Rattle.base.proofs.TestLaws.{told-true, told-false}
+use Rattle.base.proofs.CheckLaws.{fine-told}
 use Rattle.contents.specs.declared.Fault.{Fault}
 use Rattle.contents.specs.declared.Fault.the-variants.{BadItem}
+use Rattle.contents.specs.declared.ItemRule.{ItemRule}
+use Rattle.contents.specs.declared.Reply.{Reply}
 use Rattle.contents.specs.declared.Counts.{Counts}
 use Rattle.contents.specs.Limits.{itemSize, mostActions}
+use Rattle.contents.specs.Replies.{ruleRow}
 use Rattle.items.specs.declared.walk.Walk.{Walk}
 use Rattle.items.specs.declared.walk.Walk.the-variants.{Actions, Stop}
 use Rattle.items.specs.declared.Setting.{Setting}
 use Rattle.items.specs.declared.walk.Step.{Step}
 use Rattle.items.specs.Items.{itemAt, itemsFrom, itemRight, withinOf, ownOf, next, inside, onward, walked}
-use Rattle.items.specs.Inner.{stepOf, refusal, judged, StepFits, Room}
+use Rattle.items.specs.Inner.{stepOf, refusal, brokenBy, faultAt, judged, StepFits, Room}
 use Rattle.items.proofs.Decoded.{items-length, items-none, items-more, items-take, items-drop}
+use Rattle.items.proofs.RuleLaws.{field-within}
 use Rattle.items.proofs.Walked.{right-item, within-left, own-room}
 use Rattle.items.proofs.WalkLaws.{within-action, within-group, own-action, own-group, walked-end, walked-right, walked-wrong, walked-small}
 
@@ -65,9 +71,9 @@ group-last i left n room group = let a = within-group i group in let b : withinO
 
 -- ---- an item judged
 
-module _ (i : Item) (c : Counts) (h : Setting) (left n : ℕ) (t : Bool) (told : t ≡ itemRight i c h left n) where
+module _ (i : Item) (c : Counts) (h : Setting) (left n : ℕ) (t : Bool) (told : t ≡ isFine (itemRight i c h left n)) where
   pub right-room : n ≤ mostActions → not t ≡ false → Room i left n
-  right-room m p = let r = right-item i c h left n (told-true t _ told p) in record { body = within-left r; own = own-room r m }
+  right-room m p = let r = right-item i c h left n (fine-told _ (told-true t _ told p)) in record { body = within-left r; own = own-room r m }
 
   module _ (j : Item) (s : Step) (same : i ≡ j) where
     pub judged-right : not t ≡ false → s ≡ stepOf i left n → s ≡ judged j c h left n
@@ -80,17 +86,29 @@ module _ (i : Item) (c : Counts) (h : Setting) (left n : ℕ) (t : Bool) (told :
 
 pub ruleset judges = (right-room, judged-right, judged-wrong, action-step, action-bounded, group-step, group-bounded, group-last, needs)
 
-judged-verdict : (i : Item) (c : Counts) (h : Setting) (left n : ℕ) (b : Bool) → itemRight i c h left n ≡ b → (judged i c h left n) .right ≡ b
+judged-verdict : (i : Item) (c : Counts) (h : Setting) (left n : ℕ) (b : Bool) → isFine (itemRight i c h left n) ≡ b → (judged i c h left n) .right ≡ b
 unfolding judged pick stepOf
 judged-verdict i c h left n true e = rw e
 judged-verdict i c h left n false e = rw e
 
-verdict : (s : Step) (i : Item) (c : Counts) (h : Setting) (left n : ℕ) → s ≡ judged i c h left n → s .right ≡ itemRight i c h left n
+verdict : (s : Step) (i : Item) (c : Counts) (h : Setting) (left n : ℕ) → s ≡ judged i c h left n → s .right ≡ isFine (itemRight i c h left n)
 verdict s i c h left n e = rw e (judged-verdict i c h left n _ refl)
 
-judged-step : (s : Step) (i : Item) (c : Counts) (h : Setting) (left n : ℕ) → s ≡ judged i c h left n → itemRight i c h left n ≡ true → s ≡ stepOf i left n
+judged-step : (s : Step) (i : Item) (c : Counts) (h : Setting) (left n : ℕ) → s ≡ judged i c h left n → isFine (itemRight i c h left n) ≡ true → s ≡ stepOf i left n
 unfolding judged pick
 judged-step s i c h left n e p = e ∙ rw p
+
+-- ---- the fault of an item that is wrong
+
+pub fault-told : (i j : Item) (c : Counts) (h : Setting) (at left n : ℕ) (r : ItemRule) (row : Reply) → i ≡ j → r ≡ brokenBy (itemRight i c h left n) → row ≡ ruleRow r
+    → BadItem r (at + row .place) ≡ faultAt at (itemRight j c h left n)
+unfolding faultAt
+fault-told i j c h at left n r row same e p = rw (← same, ← e, p)
+
+pub field-small : (r : ItemRule) (row : Reply) → row ≡ ruleRow r → row .place < itemSize
+field-small r row p = rw p (field-within r)
+
+pub ruleset wrongs = (fault-told, needs)
 
 -- ---- the walk through the bytes
 
@@ -108,7 +126,7 @@ module _ (f : List ℕ) (c : Counts) (at count : ℕ) (h : Setting) (n : ℕ) (s
   rest-length : length (itemsFrom f (at + itemSize) (count - 1)) ≡ count - 1
   rest-length = items-length f (at + itemSize) (count - 1)
 
-  found-right : itemRight here c h (count - 1) n ≡ true
+  found-right : itemRight here c h (count - 1) n ≡ fine
       → found f c at count h n
       ≡ onward (found f c (at + itemSize) (withinOf here) (inside here h) (n + ownOf here))
       (λ m. found f c (at + itemSize + itemSize * withinOf here) (count - 1 - withinOf here) (next here h) m)
@@ -118,16 +136,18 @@ module _ (f : List ℕ) (c : Counts) (at count : ℕ) (h : Setting) (n : ℕ) (s
       rw (items-more f at count some)
       (step ∙ rw (items-take f (at + itemSize) (count - 1) (withinOf here) l, items-drop f (at + itemSize) (count - 1) (withinOf here) l))
 
-  found-wrong : itemRight here c h (count - 1) n ≡ false → found f c at count h n ≡ Stop (BadItem at)
-  found-wrong e = rw (items-more f at count some) (walked-wrong c at here (itemsFrom f (at + itemSize) (count - 1)) h n (rw rest-length e))
+  found-wrong : isFine (itemRight here c h (count - 1) n) ≡ false → found f c at count h n ≡ Stop (faultAt at (itemRight here c h (count - 1) n))
+  found-wrong e =
+      let stop = walked-wrong c at here (itemsFrom f (at + itemSize) (count - 1)) h n (rw rest-length e) in
+      rw (items-more f at count some) (rw rest-length at stop)
 
 module _ (f : List ℕ) (c : Counts) (at count depth event part n : ℕ) (W : Walk) (s : Step) (some : 0 < count)
     (es : s ≡ judged (itemAt f at) c (record { depth = depth; event = event; part = part }) (count - 1) n) where
   abbrev around : Setting
   around = record { depth = depth; event = event; part = part }
 
-  pub walk-stop : not (s .right) ≡ true → found f c at count around n ≡ W → Stop (BadItem at) ≡ W
-  walk-stop p q = sym (found-wrong f c at count around n some (told-false (s .right) _ (verdict s _ c around (count - 1) n es) p)) ∙ q
+  pub walk-stop : (x : Fault) → not (s .right) ≡ true → x ≡ faultAt at (itemRight (itemAt f at) c around (count - 1) n) → found f c at count around n ≡ W → Stop x ≡ W
+  walk-stop x p e q = ap Stop e ∙ sym (found-wrong f c at count around n some (told-false (s .right) _ (verdict s _ c around (count - 1) n es) p)) ∙ q
 
   module _ (w : Walk) (p : not (s .right) ≡ false) (ew : w ≡ found f c (at + itemSize) (s .body) (record { depth = depth + 1; event = 0; part = s .part }) (s .actions)) where
     through : found f c at count around n ≡ onward w (λ m. found f c (at + itemSize + itemSize * s .body) (s .after) (record { depth = depth; event = s .event; part = s .part }) m)
@@ -135,7 +155,7 @@ module _ (f : List ℕ) (c : Counts) (at count depth event part n : ℕ) (W : Wa
     through =
         let r = told-true (s .right) _ (verdict s _ c around (count - 1) n es) p in
         rw (ew, judged-step s _ c around (count - 1) n es r)
-        (found-right f c at count around n some r)
+        (found-right f c at count around n some (fine-told _ r))
 
     pub walk-body-stop : (x : Fault) → w ≡ Stop x → found f c at count around n ≡ W → w ≡ W
     unfolding onward

@@ -11,16 +11,17 @@ use lib.Seq.{length-take-le}
 use borrow.Author.Tests.{leb-true, ltb-true, eqb-true, eq-eqb, ne-eqb}
 use Rattle.page.specs.declared.Item.{Item}
 use Rattle.base.specs.Tests.{pick, every, between}
-use Rattle.base.specs.Checks.{fine}
+use Rattle.base.specs.Checks.{Check, fine, refused}
 use Rattle.base.proofs.TestLaws.{every-head, every-rest, between-low, between-high}
-use Rattle.contents.specs.declared.Fault.{Fault}
+use Rattle.base.proofs.CheckLaws.{first-rest, first-holds}
+use Rattle.contents.specs.declared.ItemRule.{ItemRule}
 use Rattle.contents.specs.declared.Counts.{Counts}
 use Rattle.contents.specs.Limits.{longest, mostActions, lastPart, deepest}
 use Rattle.contents.specs.Contents.{itemsAt}
 use Rattle.items.specs.declared.walk.Walk.{Walk}
 use Rattle.items.specs.declared.walk.Walk.the-variants.{Actions, Stop}
 use Rattle.items.specs.declared.Setting.{Setting}
-use Rattle.items.specs.Items.{isAction, isTop, wordsRight, partRight, inOrder, eventRight, nestingRight, numberRight, actionsRight, fieldsRight, standingRight, itemRight, withinOf, ownOf, next, inside, onward, walkOf, walked, outset, walkFault, itemsRight}
+use Rattle.items.specs.Items.{isAction, isTop, synchronyRight, errorRight, partRight, inOrder, eventRight, nestingRight, numberRight, actionsRight, itemRight, withinOf, ownOf, next, inside, onward, onFrom, walkOf, walked, outset, walkFault, itemsRight}
 
 -- ---- one item
 
@@ -50,50 +51,50 @@ passed-over : (b x y : Bool) → pick b x y ≡ true → b ≡ false → y ≡ t
 unfolding pick
 passed-over b x y p e = rw (e, pick) at p
 
-words-small : (b : Bool) (s e : ℕ) → pick b (every (eqb s 0 ∷ eqb e 0 ∷ [])) (every (leb s 1 ∷ leb e 3 ∷ [])) ≡ true → (s ≤ 1) × (e ≤ 3)
+word-small : (b : Bool) (w most : ℕ) → pick b (eqb w 0) (leb w most) ≡ true → w ≤ most
 unfolding pick
-words-small true s e p = let y = eqb-true s 0 (every-head _ _ p) in let z = eqb-true e 0 (every-head _ _ (every-rest _ _ p)) in (omega arith, omega arith)
-words-small false s e p = (leb-true s 1 (every-head _ _ p), leb-true e 3 (every-head _ _ (every-rest _ _ p)))
-
-words-none : (b : Bool) (s e : ℕ) → pick b (every (eqb s 0 ∷ eqb e 0 ∷ [])) (every (leb s 1 ∷ leb e 3 ∷ [])) ≡ true → b ≡ true → (s ≡ 0) × (e ≡ 0)
-words-none b s e p t = let q = picked b _ _ p t in (eqb-true s 0 (every-head _ _ q), eqb-true e 0 (every-head _ _ (every-rest _ _ q)))
+word-small true w most p = let z = eqb-true w 0 p in omega arith
+word-small false w most p = leb-true w most p
 
 event-small : (b o : Bool) (k e : ℕ) → pick b (every (between 1 k e ∷ o ∷ [])) (eqb e 0) ≡ true → e ≤ k
 unfolding pick
 event-small true o k e p = between-high 1 k e (every-head _ _ p)
 event-small false o k e p = let z = eqb-true e 0 p in omega arith
 
-pub right-item : (i : Item) (c : Counts) (h : Setting) (left n : ℕ) → itemRight i c h left n ≡ true → Right i c h left n
-unfolding itemRight fieldsRight standingRight wordsRight partRight eventRight nestingRight numberRight actionsRight
+pub right-item : (i : Item) (c : Counts) (h : Setting) (left n : ℕ) → itemRight i c h left n ≡ fine → Right i c h left n
+unfolding itemRight synchronyRight errorRight partRight eventRight nestingRight numberRight actionsRight
 right-item i c h left n right =
-    let fields = every-head _ _ right in
-    let fields₁ = every-rest _ _ fields in
-    let fields₂ = every-rest _ _ fields₁ in
-    let parts = every-head _ _ fields₂ in
-    let standing = every-head _ _ (every-rest _ _ right) in
-    let standing₁ = every-rest _ _ standing in
-    let standing₂ = every-rest _ _ standing₁ in
-    let events = every-head _ _ standing in
-    let nesting = every-head _ _ standing₁ in
-    let words = words-small (isAction i) (i .synchrony) (i .error) (every-head _ _ fields₁) in
+    let right₁ = first-rest _ _ right in
+    let right₂ = first-rest _ _ right₁ in
+    let right₃ = first-rest _ _ right₂ in
+    let right₄ = first-rest _ _ right₃ in
+    let right₅ = first-rest _ _ right₄ in
+    let right₆ = first-rest _ _ right₅ in
+    let right₇ = first-rest _ _ right₆ in
+    let right₈ = first-rest _ _ right₇ in
+    let synchrony = first-holds _ _ _ right₁ in
+    let error = first-holds _ _ _ right₂ in
+    let parts = first-holds _ _ _ right₃ in
+    let events = first-holds _ _ _ right₅ in
+    let nesting = first-holds _ _ _ right₆ in
     let topmost : h .depth ≡ 1 → every (between 1 (c .events) (i .event) ∷ inOrder h i ∷ []) ≡ true = λ d. picked _ _ _ events (eq-eqb (h .depth) 1 d) in
     let deeper : 1 < h .depth → isTop h ≡ false = λ d. ne-eqb (h .depth) 1 (λ e. omega arith) in
     record {
-      kind = leb-true _ _ (every-head _ _ fields);
-      synchrony = words .0;
-      error = words .1;
-      no-words = words-none (isAction i) (i .synchrony) (i .error) (every-head _ _ fields₁);
+      kind = leb-true _ _ (first-holds _ _ _ right);
+      synchrony = word-small (isAction i) (i .synchrony) 1 synchrony;
+      error = word-small (isAction i) (i .error) 3 error;
+      no-words = λ e. (eqb-true _ _ (picked _ _ _ synchrony e), eqb-true _ _ (picked _ _ _ error e));
       part = leb-true _ _ (every-head _ _ parts);
       inner-part = λ d. eqb-true _ _ (passed-over _ _ _ (every-head _ _ (every-rest _ _ parts)) (deeper d));
-      delay = leb-true _ _ (every-head _ _ (every-rest _ _ fields₂));
+      delay = leb-true _ _ (first-holds _ _ _ right₄);
       event = event-small (isTop h) (inOrder h i) (c .events) (i .event) events;
       top-event = λ d. between-low 1 (c .events) (i .event) (every-head _ _ (topmost d));
       order = λ d. every-head _ _ (every-rest _ _ (topmost d));
       inner-event = λ d. eqb-true _ _ (passed-over _ _ _ events (deeper d));
       depth = leb-true _ _ (every-head _ _ nesting);
       end = λ e. leb-true _ _ (passed-over _ _ _ (every-head _ _ (every-rest _ _ nesting)) e);
-      number = λ e. ltb-true _ _ (picked _ _ _ (every-head _ _ standing₂) e);
-      actions = λ e. ltb-true _ _ (picked _ _ _ (every-head _ _ (every-rest _ _ standing₂)) e);
+      number = λ e. ltb-true _ _ (picked _ _ _ (first-holds _ _ _ right₇) e);
+      actions = λ e. ltb-true _ _ (picked _ _ _ (first-holds _ _ _ right₈) e);
     }
 
 -- "A group ends within the group that holds it", and an action has nothing within it.
@@ -127,10 +128,10 @@ unfolding onward
 onward-ended (Actions k) on m e = (k, refl, e)
 onward-ended (Stop x) on m e = let z : _≡_ {A = ℕ} 0 1 = cc in absurd (omega arith)
 
-item-passed : (b : Bool) (w : Walk) (x : Fault) (m : ℕ) → pick b w (Stop x) ≡ Actions m → (b ≡ true) × (w ≡ Actions m)
-unfolding pick
-item-passed true w x m e = (refl, e)
-item-passed false w x m e = let z : _≡_ {A = ℕ} 0 1 = cc in absurd (omega arith)
+item-passed : (v : Check ItemRule) (at : ℕ) (w : Walk) (m : ℕ) → onFrom v at w ≡ Actions m → (v ≡ fine) × (w ≡ Actions m)
+unfolding onFrom
+item-passed fine at w m e = (refl, e)
+item-passed (refused r) at w m e = let z : _≡_ {A = ℕ} 0 1 = cc in absurd (omega arith)
 
 none-walked : (c : Counts) (h : Setting) (n m : ℕ) → Actions n ≡ Actions m → Walked c h n [] m
 none-walked c h n m e = let q : n ≡ m = cc in rw (← q) walked-none
@@ -141,7 +142,7 @@ walk-walked zero c at [] h n m l e = none-walked c h n m e
 walk-walked zero c at (i ∷ is) h n m l e = absurd (omega arith)
 walk-walked (suc x) c at [] h n m l e = none-walked c h n m e
 walk-walked (suc x) c at (i ∷ is) h n m l e =
-    let passed = item-passed (itemRight i c h (length is) n) _ _ m e in
+    let passed = item-passed (itemRight i c h (length is) n) at _ m e in
     let ended = onward-ended _ _ m (passed .1) in
     let r = right-item i c h (length is) n (passed .0) in
     let k = withinOf i in

@@ -6,13 +6,16 @@ use lib.ListN.{length, take, drop}
 use lib.Dec.{leb, ltb, eqb}
 use Rattle.page.specs.declared.Item.{Item}
 use Rattle.base.specs.Tests.{pick, every, between}
-use Rattle.base.specs.Checks.{Check, fine, refused}
+use Rattle.base.specs.Checks.{Check, fine, refused, need, firstFault}
 use Rattle.contents.specs.declared.Fault.{Fault}
 use Rattle.contents.specs.declared.Fault.the-variants.{BadItem}
+use Rattle.contents.specs.declared.ItemRule.{ItemRule}
+use Rattle.contents.specs.declared.ItemRule.the-variants as rule
 use Rattle.contents.specs.declared.Counts.{Counts}
 use Rattle.contents.specs.Limits.{itemSize, longest, mostActions, lastPart, deepest}
 use Rattle.contents.specs.Bytes.{byteAt, u16At, u32At}
 use Rattle.contents.specs.Contents.{itemsAt}
+use Rattle.contents.specs.Replies.{ruleRow}
 use Rattle.items.specs.declared.walk.Walk.{Walk}
 use Rattle.items.specs.declared.walk.Walk.the-variants.{Actions, Stop}
 use Rattle.items.specs.declared.Setting.{Setting}
@@ -48,11 +51,11 @@ abbrev pub kindRight : Item → Bool
 kindRight i = leb (i .kind) 1
 
 -- "synchrony (0 loose, 1 tight), error word (0 local, 1 global, 2 partial, 3 causal)"; "For an action both words are 0"
-unfoldable pub wordsRight : Item → Bool
-wordsRight i =
-    pick (isAction i)
-    (every (eqb (i .synchrony) 0 ∷ eqb (i .error) 0 ∷ []))
-    (every (leb (i .synchrony) 1 ∷ leb (i .error) 3 ∷ []))
+unfoldable pub synchronyRight : Item → Bool
+synchronyRight i = pick (isAction i) (eqb (i .synchrony) 0) (leb (i .synchrony) 1)
+
+unfoldable pub errorRight : Item → Bool
+errorRight i = pick (isAction i) (eqb (i .error) 0) (leb (i .error) 3)
 
 -- "part (0 to 15)"; "An item within a group has event 0 and its group's part."
 unfoldable pub partRight : Item → Setting → Bool
@@ -82,15 +85,21 @@ numberRight i c = pick (isAction i) (ltb (i .last) (c .messages)) true
 unfoldable pub actionsRight : Item → ℕ → Bool
 actionsRight i actions = pick (isAction i) (ltb actions mostActions) true
 
--- What an item says by itself and by its group, and how it stands in the table.
-unfoldable pub fieldsRight : Item → Setting → Bool
-fieldsRight i h = every (kindRight i ∷ wordsRight i ∷ partRight i h ∷ delayRight i ∷ [])
-
-unfoldable pub standingRight : Item → Counts → Setting → ℕ → ℕ → Bool
-standingRight i c h left actions = every (eventRight i c h ∷ nestingRight i h left ∷ numberRight i c ∷ actionsRight i actions ∷ [])
-
-unfoldable pub itemRight : Item → Counts → Setting → ℕ → ℕ → Bool
-itemRight i c h left actions = every (fieldsRight i h ∷ standingRight i c h left actions ∷ [])
+-- "by the first rule broken, checked in this order: kind, words, part (its group's too), delay, event (range, 0 inside groups, order by event and part), nesting, message, number of actions"
+unfoldable pub itemRight : Item → Counts → Setting → ℕ → ℕ → Check ItemRule
+itemRight i c h left actions =
+    firstFault (
+    need (kindRight i) rule.Kind
+    ∷ need (synchronyRight i) rule.Synchrony
+    ∷ need (errorRight i) rule.ErrorWord
+    ∷ need (partRight i h) rule.Part
+    ∷ need (delayRight i) rule.Delay
+    ∷ need (eventRight i c h) rule.Event
+    ∷ need (nestingRight i h left) rule.Nesting
+    ∷ need (numberRight i c) rule.Message
+    ∷ need (actionsRight i actions) rule.Actions
+    ∷ []
+    )
 
 -- ---- the whole table, in the order of the page
 
@@ -114,16 +123,20 @@ unfoldable pub onward : Walk → (ℕ → Walk) → Walk
 onward (Actions n) more = more n
 onward (Stop x) more = Stop x
 
--- Each item, then those within it, then those after it: how many actions there are, or the fault of the first wrong one. 7: "an item against the rules; also the
--- 1,025th action", at "its first byte". The first of them stands at the byte at; the first number only bounds the recursion, and is at least their count.
+-- On from an item at the byte at; from a wrong one no further: the rule that it breaks, at "the place of the field".
+unfoldable pub onFrom : Check ItemRule → (at : ℕ) → Walk → Walk
+onFrom fine at w = w
+onFrom (refused r) at w = Stop (BadItem r (at + ruleRow r .place))
+
+-- Each item, then those within it, then those after it: how many actions there are, or the fault of the first wrong one. The first of them stands at the byte at;
+-- the first number only bounds the recursion, and is at least their count.
 unfoldable pub walkOf : ℕ → Counts → ℕ → List Item → Setting → ℕ → Walk
 walkOf zero c at is h actions = Actions actions
 walkOf (suc n) c at [] h actions = Actions actions
 walkOf (suc n) c at (i ∷ is) h actions =
-    pick (itemRight i c h (length is) actions)
+    onFrom (itemRight i c h (length is) actions) at
     (onward (walkOf n c (at + itemSize) (take (withinOf i) is) (inside i h) (actions + ownOf i))
     (λ m. walkOf n c (at + itemSize + itemSize * withinOf i) (drop (withinOf i) is) (next i h) m))
-    (Stop (BadItem at))
 
 unfoldable pub walked : Counts → ℕ → List Item → Setting → ℕ → Walk
 walked c at is h actions = walkOf (length is) c at is h actions

@@ -2,9 +2,12 @@
 ghost use mathlib.Core.Path.{_≡_};
 ghost use Prim.Native.Nat.{_+_, _≤_};
 ghost use lib.ListN.{length};
+ghost use Rattle.base.specs.Checks.{isFine};
 ghost use Rattle.contents.specs.Limits.{itemSize};
-ghost use Rattle.items.specs.Items.{itemAt, kindRight, wordsRight, partRight, delayRight, inOrder, eventRight, nestingRight, numberRight, actionsRight, fieldsRight, standingRight, itemRight};
+ghost use Rattle.items.specs.Items.{itemAt, kindRight, synchronyRight, errorRight, partRight, delayRight, inOrder, eventRight, nestingRight, numberRight, actionsRight, itemRight};
+ghost use Rattle.items.specs.Inner.{fieldsRight, standingRight, brokenBy};
 use contents::Counts;
+use contents::ItemRule;
 use contents::bytes::byte;
 use contents::bytes::read16;
 use contents::bytes::read32;
@@ -50,17 +53,20 @@ fn kind_right(i: Item) -> bool
     i.kind <= 1
 }
 
-fn words_right(i: Item) -> bool
-    ensures { λ r. ⌜ r ≡ wordsRight i ⌝ }
+fn synchrony_right(i: Item) -> bool
+    ensures { λ r. ⌜ r ≡ synchronyRight i ⌝ }
 {
     if i.kind != 0 {
-        if 1 < i.synchrony {
-            return false;
-        }
-        return i.error <= 3;
+        return i.synchrony <= 1;
     }
-    if i.synchrony != 0 {
-        return false;
+    i.synchrony == 0
+}
+
+fn error_right(i: Item) -> bool
+    ensures { λ r. ⌜ r ≡ errorRight i ⌝ }
+{
+    if i.kind != 0 {
+        return i.error <= 3;
     }
     i.error == 0
 }
@@ -143,7 +149,10 @@ fn fields_right(i: Item, h: Setting) -> bool
     if !kind_right(i) {
         return false;
     }
-    if !words_right(i) {
+    if !synchrony_right(i) {
+        return false;
+    }
+    if !error_right(i) {
         return false;
     }
     if !part_right(i, h) {
@@ -169,10 +178,41 @@ fn standing_right(i: Item, c: Counts, h: Setting, left: usize, actions: usize) -
 
 // Whether the item is right where it stands: `left` items follow it within what holds it, `actions` stand before it on the page.
 pub fn item_right(i: Item, c: Counts, h: Setting, left: usize, actions: usize) -> bool
-    ensures { λ r. ⌜ r ≡ itemRight i c h left actions ⌝ }
+    ensures { λ r. ⌜ r ≡ isFine (itemRight i c h left actions) ⌝ }
 {
     if !fields_right(i, h) {
         return false;
     }
     standing_right(i, c, h, left, actions)
+}
+
+// The first rule that a wrong item breaks.
+pub fn rule_broken(i: Item, c: Counts, h: Setting, left: usize, actions: usize) -> ItemRule
+    ensures { λ r. ⌜ r ≡ brokenBy (itemRight i c h left actions) ⌝ }
+{
+    if !kind_right(i) {
+        return ItemRule::Kind;
+    }
+    if !synchrony_right(i) {
+        return ItemRule::Synchrony;
+    }
+    if !error_right(i) {
+        return ItemRule::ErrorWord;
+    }
+    if !part_right(i, h) {
+        return ItemRule::Part;
+    }
+    if !delay_right(i) {
+        return ItemRule::Delay;
+    }
+    if !event_right(i, c, h) {
+        return ItemRule::Event;
+    }
+    if !nesting_right(i, h, left) {
+        return ItemRule::Nesting;
+    }
+    if !number_right(i, c) {
+        return ItemRule::Message;
+    }
+    ItemRule::Actions
 }

@@ -7,16 +7,18 @@ ghost use Rattle.contents.specs.Limits.{itemSize, mostActions};
 ghost use Rattle.contents.specs.Replies.{verdictOf};
 ghost use Rattle.contents.specs.Contents.{itemsAt};
 ghost use Rattle.contents.specs.Inner.{Sized};
-ghost use Rattle.items.specs.Items.{itemAt, itemsFrom, walked, itemsRight};
-ghost use Rattle.items.specs.Inner.{stepOf, refusal, judged, StepFits, Room, Walkable};
+ghost use Rattle.items.specs.Items.{itemAt, itemsFrom, itemRight, walked, itemsRight};
+ghost use Rattle.items.specs.Inner.{stepOf, refusal, judged, faultAt, StepFits, Room, Walkable};
 use crate::Setting;
 use crate::item_at;
 use crate::item_right;
+use crate::rule_broken;
 use contents::Counts;
 use contents::Fault;
 use contents::Verdict;
 use contents::items_at;
 use contents::limits::ITEM_SIZE;
+use contents::rule_row;
 use page::Item;
 
 // How a walk of items ends: with so many actions, or with the fault of the first bad item.
@@ -85,6 +87,17 @@ fn judge(file: &[u8], c: Counts, at: usize, h: Setting, left: usize, actions: us
     accepted(i, left, actions)
 }
 
+// The fault of a wrong item at the byte `at`: the first rule that it breaks, at the rule's field.
+fn fault_at(file: &[u8], c: Counts, at: usize, h: Setting, left: usize, actions: usize) -> Fault
+    requires { ⌜ at + itemSize ≤ length (now file) ⌝ }
+    ensures { λ r. ⌜ r ≡ faultAt at (itemRight (itemAt (now (file .entry)) at) c h left actions) ⌝ }
+{
+    let i = item_at(file, at);
+    let rule = rule_broken(i, c, h, left, actions);
+    let offset = rule_row(rule).place;
+    Fault::BadItem(rule, at + offset)
+}
+
 // The `count` items from the byte `at` on, and all within them. The items of a group are fewer than those of what holds it.
 fn walk_items(file: &[u8], c: Counts, at: usize, count: usize, h: Setting, actions: usize) -> Walk
     requires { ⌜ Walkable (length (now file)) at count h actions ⌝ }
@@ -100,7 +113,7 @@ fn walk_items(file: &[u8], c: Counts, at: usize, count: usize, h: Setting, actio
         let around = Setting { depth, event, part };
         let s = judge(file, c, i, around, left - 1, n);
         if !s.right {
-            return Walk::Stop(Fault::BadItem(i));
+            return Walk::Stop(fault_at(file, c, i, around, left - 1, n));
         }
         let body = s.body;
         let inner = Setting {

@@ -14,16 +14,18 @@ use Rattle.base.specs.Checks.{Check, fine, refused, need, firstFault}
 use Rattle.base.proofs.TestLaws.{between-in}
 use Rattle.contents.specs.declared.Fault.{Fault}
 use Rattle.contents.specs.declared.Fault.the-variants.{BadEvent, BadItem, BadMessage, TextLeft}
+use Rattle.contents.specs.declared.ItemRule.{ItemRule}
 use Rattle.contents.specs.declared.Counts.{Counts}
 use Rattle.contents.specs.Limits.{contentsSize, eventSize, itemSize, messageSize, longestScore}
 use Rattle.contents.specs.Bytes.{u16At}
 use Rattle.contents.specs.Contents.{offsetsOf, countsOf, countsRight, offsetsRight, eventsAt, itemsAt, messagesAt}
 use Rattle.contents.specs.Inner.{Counted}
-use Rattle.contents.specs.Replies.{faultRow}
+use Rattle.contents.specs.Replies.{ruleRow, faultRow}
 use Rattle.items.specs.declared.walk.Walk.{Walk}
 use Rattle.items.specs.declared.walk.Walk.the-variants.{Actions, Stop}
 use Rattle.items.specs.declared.Setting.{Setting}
-use Rattle.items.specs.Items.{withinOf, ownOf, next, inside, onward, walkOf, walked, outset, walkFault, itemsRight}
+use Rattle.items.specs.Items.{withinOf, ownOf, next, inside, onward, onFrom, walkOf, walked, outset, walkFault, itemsRight}
+use Rattle.items.proofs.RuleLaws.{rule-numbered}
 use Rattle.messages.specs.Messages.{messagesRight}
 use Rattle.score.specs.Events.{eventsRight}
 use Rattle.score.specs.Piece.{decode}
@@ -130,20 +132,26 @@ module _ (s : Score) (k : Counted (countsOn s)) where
 
 -- ---- the faults of the bodies
 
--- Nothing, or a fault of an event, an item or a message: 6, 7 or 8.
+-- The numbers of a fault of an event, an item or a message: 6, 8, and 20 to 27.
+pub data OfBody : ℕ → Type 0 where
+  of-event : OfBody 6
+  of-message : OfBody 8
+  of-item : {n : ℕ} → 20 ≤ n → n ≤ 27 → OfBody n
+
+-- Nothing, or such a fault.
 pub data OfBodies : Check Fault → Type 0 where
   no-fault : OfBodies fine
-  body-fault : {x : Fault} → 6 ≤ faultRow x .number → faultRow x .number ≤ 8 → OfBodies (refused x)
+  body-fault : {x : Fault} → OfBody (faultRow x .number) → OfBodies (refused x)
 
 first-of : (v : Check Fault) (l : List (Check Fault)) → OfBodies v → OfBodies (firstFault l) → OfBodies (firstFault (v ∷ l))
 unfolding firstFault
 first-of fine l h k = k
 first-of (refused x) l h k = h
 
-need-of : (b : Bool) (x : Fault) → 6 ≤ faultRow x .number → faultRow x .number ≤ 8 → OfBodies (need b x)
+need-of : (b : Bool) (x : Fault) → OfBody (faultRow x .number) → OfBodies (need b x)
 unfolding need
-need-of true x p q = no-fault
-need-of false x p q = body-fault p q
+need-of true x p = no-fault
+need-of false x p = body-fault p
 
 none-left : OfBodies (firstFault [])
 unfolding firstFault
@@ -152,13 +160,13 @@ none-left = no-fault
 events-of : (at : ℕ) (ds : List ℕ) → OfBodies (eventsRight at ds)
 unfolding eventsRight faultRow
 events-of at [] = no-fault
-events-of at (d ∷ ds) = first-of _ _ (need-of _ (BadEvent at) (omega arith) (omega arith)) (first-of _ _ (events-of (at + eventSize) ds) none-left)
+events-of at (d ∷ ds) = first-of _ _ (need-of _ (BadEvent at) of-event) (first-of _ _ (events-of (at + eventSize) ds) none-left)
 
 messages-of : (f : List ℕ) (c : Counts) (at count from : ℕ) → OfBodies (messagesRight f c at count from)
 unfolding messagesRight faultRow
-messages-of f c at zero from = need-of _ TextLeft (omega arith) (omega arith)
+messages-of f c at zero from = need-of _ TextLeft of-message
 messages-of f c at (suc count) from =
-    first-of _ _ (need-of _ (BadMessage at) (omega arith) (omega arith))
+    first-of _ _ (need-of _ (BadMessage at) of-message)
     (first-of _ _ (messages-of f c (at + messageSize) count (from + u16At f (at + 2))) none-left)
 
 walk-onward : (w : Walk) (more : ℕ → Walk) → OfBodies (walkFault w) → ((n : ℕ) → OfBodies (walkFault (more n))) → OfBodies (walkFault (onward w more))
@@ -166,17 +174,17 @@ unfolding onward
 walk-onward (Actions n) more h k = k n
 walk-onward (Stop x) more h k = h
 
-walk-pick : (b : Bool) (w : Walk) (at : ℕ) → OfBodies (walkFault w) → OfBodies (walkFault (pick b w (Stop (BadItem at))))
-unfolding pick walkFault faultRow
-walk-pick true w at h = h
-walk-pick false w at h = body-fault {x = BadItem at} (omega arith) (omega arith)
+walk-on : (v : Check ItemRule) (at : ℕ) (w : Walk) → OfBodies (walkFault w) → OfBodies (walkFault (onFrom v at w))
+unfolding onFrom walkFault faultRow
+walk-on fine at w h = h
+walk-on (refused r) at w h = let n = rule-numbered r in body-fault {x = BadItem r (at + ruleRow r .place)} (of-item (n .0) (n .1))
 
 walk-of : (n : ℕ) (c : Counts) (at : ℕ) (is : List Item) (h : Setting) (actions : ℕ) → OfBodies (walkFault (walkOf n c at is h actions))
 unfolding walkOf walkFault
 walk-of zero c at is h actions = no-fault
 walk-of (suc n) c at [] h actions = no-fault
 walk-of (suc n) c at (i ∷ is) h actions =
-    walk-pick _ _ at
+    walk-on _ at _
     (walk-onward _ _ (walk-of n c (at + itemSize) (take (withinOf i) is) (inside i h) (actions + ownOf i))
     (λ m. walk-of n c (at + itemSize + itemSize * withinOf i) (drop (withinOf i) is) (next i h) m))
 
@@ -199,14 +207,14 @@ no-contents-fault f w =
 pub data Number : ℕ → Type 0 where
   granted : Number 0
   short-room : Number 2
-  of-body : {n : ℕ} → 6 ≤ n → n ≤ 8 → Number n
+  of-file : {n : ℕ} → OfBody n → Number n
   of-extended : Number 17
   of-limit : Number 18
 
 judged-number : (made : List ℕ) (v : Check Fault) → OfBodies v → Number (unfoldRow (judged made v) .number)
 unfolding judged unfoldRow
 judged-number made fine no-fault = granted
-judged-number made (refused x) (body-fault p q) = of-body p q
+judged-number made (refused x) (body-fault p) = of-file p
 
 limited-number : (f : List ℕ) (b : Bool) → withinLimits (scoreOf (extendedOf f)) ≡ b → Number (unfoldRow (pick b (judged (unfoldedFile f) (checked (unfoldedFile f))) OverLimit) .number)
 unfolding pick unfoldRow
@@ -223,7 +231,7 @@ unfolding pick unfoldRow
 room-number true u h = h
 room-number false u h = short-room
 
--- 0, 2, 6, 7, 8, 17 and 18 are all the numbers that it tells.
+-- 0, 2, 6, 8, 17, 18 and 20 to 27 are all the numbers that it tells.
 pub only-numbers : (room : ℕ) (f : List ℕ) → Number (unfoldRow (unfoldAnswer room f) .number)
 unfolding unfoldAnswer
 only-numbers room f = room-number (leb longestScore room) (answered f (extendedRight f)) (answered-number f (extendedRight f))
@@ -231,7 +239,9 @@ only-numbers room f = room-number (leb longestScore room) (answered f (extendedR
 not-contents : {n : ℕ} → Number n → 3 ≤ n → n ≤ 5 → ⊥
 not-contents granted p q = absurd (omega arith)
 not-contents short-room p q = absurd (omega arith)
-not-contents (of-body h k) p q = absurd (omega arith)
+not-contents (of-file of-event) p q = absurd (omega arith)
+not-contents (of-file of-message) p q = absurd (omega arith)
+not-contents (of-file (of-item h k)) p q = absurd (omega arith)
 not-contents of-extended p q = absurd (omega arith)
 not-contents of-limit p q = absurd (omega arith)
 

@@ -5,9 +5,11 @@ use mathlib.Core.List.{List, [], _∷_, map}
 use Prim.Native.Nat.{ℕ, zero, suc, _<_}
 use native.Mathlib.Omega.{arith}
 use lib.ListN.{length, getD}
-use Rattle.contents.specs.Replies.{faultRow}
+use Rattle.contents.specs.Replies.{ruleRow, faultRow}
 use Rattle.contents.specs.declared.Fault.{Fault}
 use Rattle.contents.specs.declared.Fault.the-variants.{FileShort, BadCount, BadOffset, BadLength, BadEvent, BadItem, BadMessage, TextLeft, NoMessage}
+use Rattle.contents.specs.declared.ItemRule.{ItemRule}
+use Rattle.contents.specs.declared.ItemRule.the-variants as rule
 use Rattle.session.specs.Replies.{refusalRow}
 use Rattle.session.specs.declared.Refusal.{Refusal}
 use Rattle.session.specs.declared.Refusal.the-variants.{MemoryShort, RoomShort, File, BadTempo, BadGrace, NoSession, NoEvent, NotAfter, BadMillis, ClockFull}
@@ -18,8 +20,8 @@ use Rattle.unfolding.specs.declared.Unfolding.the-variants as unfolds
 use Rattle.unfolding.specs.Replies.{unfoldRow}
 use Rattle.wording.specs.declared.Row.{Row}
 use Rattle.wording.specs.declared.Row.the-variants.{Call, Text, Unfold}
-use Rattle.wording.specs.Words.{faultWords, refusalWords, transcriptWords, extendedWords, unfoldingWords, rowNumber, rowWords, replyRows, rowCount, doneNumber}
-use Rattle.wording.proofs.Apart.{faultRowAt, refusalRowAt, rowAt}
+use Rattle.wording.specs.Words.{ruleWords, faultWords, refusalWords, transcriptWords, extendedWords, unfoldingWords, rowNumber, rowWords, replyRows, rowCount, doneNumber}
+use Rattle.wording.proofs.Apart.{ruleRowAt, faultRowAt, refusalRowAt, rowAt}
 
 -- ---- every reply has its row
 
@@ -35,6 +37,18 @@ pub record Listed (x : Row) : Type 0 where
   pub number : rowNumber (listedRow x) ≡ rowNumber x
   pub words : rowWords (listedRow x) ≡ rowWords x
 
+item-listed : (r : ItemRule) (at : ℕ) → Listed (Call (File (BadItem r at)))
+unfolding listedRow rowAt refusalRowAt faultRowAt ruleRowAt allRows replyRows rowNumber refusalRow transcriptRow unfoldRow faultRow ruleRow rowWords refusalWords transcriptWords extendedWords unfoldingWords faultWords ruleWords
+item-listed rule.Kind at = record { within = omega arith; number = refl; words = refl }
+item-listed rule.Synchrony at = record { within = omega arith; number = refl; words = refl }
+item-listed rule.ErrorWord at = record { within = omega arith; number = refl; words = refl }
+item-listed rule.Part at = record { within = omega arith; number = refl; words = refl }
+item-listed rule.Delay at = record { within = omega arith; number = refl; words = refl }
+item-listed rule.Event at = record { within = omega arith; number = refl; words = refl }
+item-listed rule.Nesting at = record { within = omega arith; number = refl; words = refl }
+item-listed rule.Message at = record { within = omega arith; number = refl; words = refl }
+item-listed rule.Actions at = record { within = omega arith; number = refl; words = refl }
+
 fault-listed : (x : Fault) → Listed (Call (File x))
 unfolding listedRow rowAt refusalRowAt faultRowAt allRows replyRows rowNumber refusalRow transcriptRow unfoldRow faultRow rowWords refusalWords transcriptWords extendedWords unfoldingWords faultWords
 fault-listed FileShort = record { within = omega arith; number = refl; words = refl }
@@ -42,7 +56,7 @@ fault-listed (BadCount at) = record { within = omega arith; number = refl; words
 fault-listed (BadOffset at) = record { within = omega arith; number = refl; words = refl }
 fault-listed BadLength = record { within = omega arith; number = refl; words = refl }
 fault-listed (BadEvent at) = record { within = omega arith; number = refl; words = refl }
-fault-listed (BadItem at) = record { within = omega arith; number = refl; words = refl }
+fault-listed (BadItem r at) = item-listed r at
 fault-listed (BadMessage at) = record { within = omega arith; number = refl; words = refl }
 fault-listed TextLeft = record { within = omega arith; number = refl; words = refl }
 fault-listed NoMessage = record { within = omega arith; number = refl; words = refl }
@@ -50,28 +64,12 @@ fault-listed NoMessage = record { within = omega arith; number = refl; words = r
 -- a text's file is refused as the file is
 file-listed : (x : Fault) → Listed (Text (BadFile x))
 unfolding listedRow rowAt refusalRowAt faultRowAt allRows replyRows rowNumber refusalRow transcriptRow unfoldRow faultRow rowWords refusalWords transcriptWords extendedWords unfoldingWords faultWords
-file-listed FileShort = record { within = omega arith; number = refl; words = refl }
-file-listed (BadCount at) = record { within = omega arith; number = refl; words = refl }
-file-listed (BadOffset at) = record { within = omega arith; number = refl; words = refl }
-file-listed BadLength = record { within = omega arith; number = refl; words = refl }
-file-listed (BadEvent at) = record { within = omega arith; number = refl; words = refl }
-file-listed (BadItem at) = record { within = omega arith; number = refl; words = refl }
-file-listed (BadMessage at) = record { within = omega arith; number = refl; words = refl }
-file-listed TextLeft = record { within = omega arith; number = refl; words = refl }
-file-listed NoMessage = record { within = omega arith; number = refl; words = refl }
+file-listed x = let l = fault-listed x in record { within = l .within; number = l .number; words = l .words }
 
 -- and so is an unfolded one
 unfolded-listed : (x : Fault) → Listed (Unfold (unfolds.BadFile x))
 unfolding listedRow rowAt refusalRowAt faultRowAt allRows replyRows rowNumber refusalRow transcriptRow unfoldRow faultRow rowWords refusalWords transcriptWords extendedWords unfoldingWords faultWords
-unfolded-listed FileShort = record { within = omega arith; number = refl; words = refl }
-unfolded-listed (BadCount at) = record { within = omega arith; number = refl; words = refl }
-unfolded-listed (BadOffset at) = record { within = omega arith; number = refl; words = refl }
-unfolded-listed BadLength = record { within = omega arith; number = refl; words = refl }
-unfolded-listed (BadEvent at) = record { within = omega arith; number = refl; words = refl }
-unfolded-listed (BadItem at) = record { within = omega arith; number = refl; words = refl }
-unfolded-listed (BadMessage at) = record { within = omega arith; number = refl; words = refl }
-unfolded-listed TextLeft = record { within = omega arith; number = refl; words = refl }
-unfolded-listed NoMessage = record { within = omega arith; number = refl; words = refl }
+unfolded-listed x = let l = fault-listed x in record { within = l .within; number = l .number; words = l .words }
 
 refusal-listed : (x : Refusal) → Listed (Call x)
 unfolding listedRow rowAt refusalRowAt faultRowAt allRows replyRows rowNumber refusalRow transcriptRow unfoldRow faultRow rowWords refusalWords transcriptWords extendedWords unfoldingWords faultWords
@@ -106,7 +104,7 @@ pub rows-counted : length replyRows ≡ rowCount
 unfolding replyRows
 rows-counted = refl
 
--- 2, 5, 8 and 17 have two rows each
-pub every-number : doneNumber ∷ map rowNumber replyRows ≡ 0 ∷ 1 ∷ 2 ∷ 2 ∷ 3 ∷ 4 ∷ 5 ∷ 5 ∷ 6 ∷ 7 ∷ 8 ∷ 8 ∷ 9 ∷ 10 ∷ 11 ∷ 12 ∷ 13 ∷ 14 ∷ 15 ∷ 16 ∷ 17 ∷ 17 ∷ 18 ∷ 19 ∷ []
-unfolding replyRows rowNumber refusalRow transcriptRow unfoldRow faultRow
+-- 2, 5, 8 and 17 have two rows each, and 7 has none
+pub every-number : doneNumber ∷ map rowNumber replyRows ≡ 0 ∷ 1 ∷ 2 ∷ 2 ∷ 3 ∷ 4 ∷ 5 ∷ 5 ∷ 6 ∷ 8 ∷ 8 ∷ 9 ∷ 10 ∷ 11 ∷ 12 ∷ 13 ∷ 14 ∷ 15 ∷ 16 ∷ 17 ∷ 17 ∷ 18 ∷ 19 ∷ 20 ∷ 21 ∷ 22 ∷ 23 ∷ 24 ∷ 25 ∷ 26 ∷ 27 ∷ []
+unfolding replyRows rowNumber refusalRow transcriptRow unfoldRow faultRow ruleRow
 every-number = refl

@@ -11,15 +11,29 @@ use Rattle.ascii.specs.Text.{bytesOf}
 use Rattle.ascii.specs.Laying.{Laid}
 use Rattle.contents.specs.declared.Fault.{Fault}
 use Rattle.contents.specs.declared.Fault.the-variants.{FileShort, BadCount, BadOffset, BadLength, BadEvent, BadItem, BadMessage, TextLeft, NoMessage}
+use Rattle.contents.specs.declared.ItemRule.{ItemRule}
+use Rattle.contents.specs.declared.ItemRule.the-variants as rule
 use Rattle.session.specs.declared.Refusal.{Refusal}
 use Rattle.session.specs.declared.Refusal.the-variants.{MemoryShort, RoomShort, File, BadTempo, BadGrace, NoSession, NoEvent, NotAfter, BadMillis, ClockFull}
 use Rattle.text.specs.declared.Transcript.{Transcript}
 use Rattle.text.specs.declared.Transcript.the-variants.{Made, NoRoom, BadText, BadFile}
 use Rattle.unfolding.specs.declared.Unfolding.{Unfolding}
 use Rattle.unfolding.specs.declared.Unfolding.the-variants as unfolds
-use Rattle.wording.specs.Words.{faultWords, refusalWords, transcriptWords, extendedWords, unfoldingWords, doneWords, mostWords, faultPlaced, placed}
+use Rattle.wording.specs.Words.{ruleWords, faultWords, refusalWords, transcriptWords, extendedWords, unfoldingWords, doneWords, mostWords, faultPlaced, placed}
 
 -- ---- how many bytes the words have
+
+rule-most : (r : ItemRule) → (0 < length (ruleWords r)) × (length (ruleWords r) ≤ mostWords)
+unfolding ruleWords
+rule-most rule.Kind = (omega arith, omega arith)
+rule-most rule.Synchrony = (omega arith, omega arith)
+rule-most rule.ErrorWord = (omega arith, omega arith)
+rule-most rule.Part = (omega arith, omega arith)
+rule-most rule.Delay = (omega arith, omega arith)
+rule-most rule.Event = (omega arith, omega arith)
+rule-most rule.Nesting = (omega arith, omega arith)
+rule-most rule.Message = (omega arith, omega arith)
+rule-most rule.Actions = (omega arith, omega arith)
 
 fault-most : (x : Fault) → (0 < length (faultWords x)) × (length (faultWords x) ≤ mostWords)
 unfolding faultWords
@@ -28,7 +42,7 @@ fault-most (BadCount at) = (omega arith, omega arith)
 fault-most (BadOffset at) = (omega arith, omega arith)
 fault-most BadLength = (omega arith, omega arith)
 fault-most (BadEvent at) = (omega arith, omega arith)
-fault-most (BadItem at) = (omega arith, omega arith)
+fault-most (BadItem r at) = rule-most r
 fault-most (BadMessage at) = (omega arith, omega arith)
 fault-most TextLeft = (omega arith, omega arith)
 fault-most NoMessage = (omega arith, omega arith)
@@ -56,6 +70,11 @@ transcript-told (BadFile x) = fault-most x
 -- ---- the row of a case is the row of what is this case
 
 module _ {o m words : List ℕ} {at r : ℕ} where
+  pub rule-case : {x y : ItemRule} → x ≡ y → Laid o at words m r → ruleWords y ≡ words → Laid o at (ruleWords x) m r × (r ≤ at + mostWords)
+  rule-case {x} {y} e laid p =
+      let s : r ≡ at + length words = laid .stop in
+      (rw (e, p) laid, omega (arith, rw p at (rule-most y)))
+
   pub fault-case : {x y : Fault} → x ≡ y → Laid o at words m r → faultWords y ≡ words → Laid o at (faultWords x) m r × (r ≤ at + mostWords)
   fault-case {x} {y} e laid p =
       let s : r ≡ at + length words = laid .stop in
@@ -74,6 +93,10 @@ module _ {o m words : List ℕ} {at r : ℕ} where
 pub transcript-file : (o m : List ℕ) (at r : ℕ) (t : Transcript) (f : Fault) → t ≡ BadFile f → Laid o at (faultWords f) m r → Laid o at (transcriptWords t) m r
 unfolding transcriptWords
 transcript-file o m at r t f e laid = rw e laid
+
+pub fault-item : (o m : List ℕ) (at r : ℕ) (x : Fault) (rule : ItemRule) (place : ℕ) → x ≡ BadItem rule place → Laid o at (ruleWords rule) m r → Laid o at (faultWords x) m r
+unfolding faultWords
+fault-item o m at r x rule place e laid = rw e laid
 
 pub words-file : (o m : List ℕ) (at r : ℕ) (x : Refusal) (f : Fault) → x ≡ File f → Laid o at (faultWords f) m r → Laid o at (refusalWords x) m r
 unfolding refusalWords
@@ -118,4 +141,4 @@ fault-placed-case x y r e p = rw e p
 pub placed-case : (x y : Refusal) (r : Bool) → x ≡ y → r ≡ placed y → r ≡ placed x
 placed-case x y r e p = rw e p
 
-pub ruleset rows = (words-file, transcript-file, fault-placed-case, placed-case, needs)
+pub ruleset rows = (fault-item, words-file, transcript-file, fault-placed-case, placed-case, needs)

@@ -6,6 +6,8 @@ use Rattle.ascii.specs.Words.{space, newline}
 use Rattle.ascii.specs.Decimals.{decimal}
 use Rattle.contents.specs.declared.Fault.{Fault}
 use Rattle.contents.specs.declared.Fault.the-variants.{FileShort, BadCount, BadOffset, BadLength, BadEvent, BadItem, BadMessage, TextLeft, NoMessage}
+use Rattle.contents.specs.declared.ItemRule.{ItemRule}
+use Rattle.contents.specs.declared.ItemRule.the-variants as rule
 use Rattle.session.specs.declared.Refusal.{Refusal}
 use Rattle.session.specs.declared.Refusal.the-variants.{MemoryShort, RoomShort, File, BadTempo, BadGrace, NoSession, NoEvent, NotAfter, BadMillis, ClockFull}
 use Rattle.session.specs.Replies.{refusalRow}
@@ -19,6 +21,18 @@ use Rattle.wording.specs.declared.Row.{Row}
 use Rattle.wording.specs.declared.Row.the-variants.{Call, Text, Unfold}
 use Rattle.ascii.specs.Text.{bytesOf}
 
+-- The rules of an item: both words have one row.
+unfoldable pub ruleWords : ItemRule → List ℕ
+ruleWords rule.Kind = bytesOf "an item's kind, not 0 or 1"
+ruleWords rule.Synchrony = bytesOf "an item's words, out of range or not 0 on an action"
+ruleWords rule.ErrorWord = ruleWords rule.Synchrony
+ruleWords rule.Part = bytesOf "an item's part, above 15 or not its group's"
+ruleWords rule.Delay = bytesOf "an item's delay, above 5,040,000"
+ruleWords rule.Event = bytesOf "an item's event, out of range, out of order by event and part, or not 0 within a group"
+ruleWords rule.Nesting = bytesOf "an item's nesting, at depth 9 or a group that ends past what holds it"
+ruleWords rule.Message = bytesOf "an action's message number, not below the message count"
+ruleWords rule.Actions = bytesOf "the 1,025th action"
+
 -- The words of its column 'When', letter for letter.
 unfoldable pub faultWords : Fault → List ℕ
 faultWords FileShort = bytesOf "file under 32 bytes"
@@ -26,7 +40,7 @@ faultWords (BadCount at) = bytesOf "a count outside its limits"
 faultWords (BadOffset at) = bytesOf "an offset not as above"
 faultWords BadLength = bytesOf "offsets right, file length wrong"
 faultWords (BadEvent at) = bytesOf "an event's duration"
-faultWords (BadItem at) = bytesOf "an item against the rules; also the 1,025th action"
+faultWords (BadItem r at) = ruleWords r
 faultWords (BadMessage at) = bytesOf "a message entry or its label bytes"
 faultWords TextLeft = bytesOf "entries right, text not used up"
 faultWords NoMessage = bytesOf "no such message"
@@ -70,9 +84,9 @@ unfoldingWords (unfolds.BadExtended place) = extendedWords place
 unfoldingWords unfolds.OverLimit = bytesOf "the unfolded score would break a limit"
 unfoldingWords (unfolds.BadFile x) = faultWords x
 
--- The longest of them are the item's.
+-- The longest of them are those of an item's event.
 abbrev pub mostWords : ℕ
-mostWords = 50
+mostWords = 86
 
 -- Whether the table's column 'Place' names a byte of the file. BadOffset at byte 0 does, BadLength with the same number and place does not.
 unfoldable pub faultPlaced : Fault → Bool
@@ -81,7 +95,7 @@ faultPlaced (BadCount at) = true
 faultPlaced (BadOffset at) = true
 faultPlaced BadLength = false
 faultPlaced (BadEvent at) = true
-faultPlaced (BadItem at) = true
+faultPlaced (BadItem r at) = true
 faultPlaced (BadMessage at) = true
 faultPlaced TextLeft = true
 faultPlaced NoMessage = false
@@ -120,7 +134,6 @@ replyRows =
     ∷ Call (File (BadOffset 0))
     ∷ Call (File BadLength)
     ∷ Call (File (BadEvent 32))
-    ∷ Call (File (BadItem 36))
     ∷ Call (File (BadMessage 36))
     ∷ Call (File TextLeft)
     ∷ Call BadTempo
@@ -135,22 +148,30 @@ replyRows =
     ∷ Unfold (unfolds.BadExtended 40)
     ∷ Unfold unfolds.OverLimit
     ∷ Call BadGrace
+    ∷ Call (File (BadItem rule.Kind 36))
+    ∷ Call (File (BadItem rule.Synchrony 36))
+    ∷ Call (File (BadItem rule.Part 36))
+    ∷ Call (File (BadItem rule.Delay 36))
+    ∷ Call (File (BadItem rule.Event 36))
+    ∷ Call (File (BadItem rule.Nesting 36))
+    ∷ Call (File (BadItem rule.Message 36))
+    ∷ Call (File (BadItem rule.Actions 36))
     ∷ []
 
 -- How many they are, and the first of them.
 abbrev pub rowCount : ℕ
-rowCount = 23
+rowCount = 30
 
 abbrev pub firstRow : Row
 firstRow = Call MemoryShort
 
--- A row's line: its number and its words, as `7 an item against the rules; also the 1,025th action`.
+-- A row's line: its number and its words, as `6 an event's duration`.
 unfoldable pub replyLine : (number : ℕ) (words : List ℕ) → List ℕ
 replyLine number words = decimal number ++ (space ∷ (words ++ (newline ∷ [])))
 
 -- Room for a row's line: a number of 20 digits, the longest words, and a space and a newline.
 abbrev pub rowRoom : ℕ
-rowRoom = 72
+rowRoom = 108
 
 -- The lines of these rows, one behind the other.
 unfoldable pub rowLines : List Row → List ℕ
@@ -162,4 +183,4 @@ unfoldable pub replyLines : List ℕ
 replyLines = replyLine doneNumber doneWords ++ rowLines replyRows
 
 abbrev pub repliesRoom : ℕ
-repliesRoom = 2048
+repliesRoom = 4096

@@ -14,6 +14,7 @@ use ascii::SPACE;
 use ascii::put_byte;
 use ascii::put_bytes;
 use contents::Fault;
+use contents::ItemRule;
 use session::Refusal;
 use session::refusal_row;
 use text::Transcript;
@@ -21,7 +22,7 @@ use text::replied_text;
 use unfolding::Unfolding;
 use unfolding::replied_unfolding;
 
-const ROWS: usize = 23;
+const ROWS: usize = 30;
 
 // The i-th row; behind the last, the first stands for it.
 fn row_at(i: usize) -> Row
@@ -36,21 +37,28 @@ fn row_at(i: usize) -> Row
         5 => Row::Call(Refusal::File(Fault::BadOffset(0))),
         6 => Row::Call(Refusal::File(Fault::BadLength)),
         7 => Row::Call(Refusal::File(Fault::BadEvent(32))),
-        8 => Row::Call(Refusal::File(Fault::BadItem(36))),
-        9 => Row::Call(Refusal::File(Fault::BadMessage(36))),
-        10 => Row::Call(Refusal::File(Fault::TextLeft)),
-        11 => Row::Call(Refusal::BadTempo),
-        12 => Row::Call(Refusal::NoSession),
-        13 => Row::Call(Refusal::NoEvent),
-        14 => Row::Call(Refusal::NotAfter),
-        15 => Row::Call(Refusal::BadMillis),
-        16 => Row::Call(Refusal::ClockFull),
-        17 => Row::Call(Refusal::File(Fault::NoMessage)),
-        18 => Row::Text(Transcript::BadText { line: 1, column: 1 }),
-        19 => Row::Unfold(Unfolding::BadExtended { place: 0 }),
-        20 => Row::Unfold(Unfolding::BadExtended { place: 40 }),
-        21 => Row::Unfold(Unfolding::OverLimit),
-        22 => Row::Call(Refusal::BadGrace),
+        8 => Row::Call(Refusal::File(Fault::BadMessage(36))),
+        9 => Row::Call(Refusal::File(Fault::TextLeft)),
+        10 => Row::Call(Refusal::BadTempo),
+        11 => Row::Call(Refusal::NoSession),
+        12 => Row::Call(Refusal::NoEvent),
+        13 => Row::Call(Refusal::NotAfter),
+        14 => Row::Call(Refusal::BadMillis),
+        15 => Row::Call(Refusal::ClockFull),
+        16 => Row::Call(Refusal::File(Fault::NoMessage)),
+        17 => Row::Text(Transcript::BadText { line: 1, column: 1 }),
+        18 => Row::Unfold(Unfolding::BadExtended { place: 0 }),
+        19 => Row::Unfold(Unfolding::BadExtended { place: 40 }),
+        20 => Row::Unfold(Unfolding::OverLimit),
+        21 => Row::Call(Refusal::BadGrace),
+        22 => Row::Call(Refusal::File(Fault::BadItem(ItemRule::Kind, 36))),
+        23 => Row::Call(Refusal::File(Fault::BadItem(ItemRule::Synchrony, 36))),
+        24 => Row::Call(Refusal::File(Fault::BadItem(ItemRule::Part, 36))),
+        25 => Row::Call(Refusal::File(Fault::BadItem(ItemRule::Delay, 36))),
+        26 => Row::Call(Refusal::File(Fault::BadItem(ItemRule::Event, 36))),
+        27 => Row::Call(Refusal::File(Fault::BadItem(ItemRule::Nesting, 36))),
+        28 => Row::Call(Refusal::File(Fault::BadItem(ItemRule::Message, 36))),
+        29 => Row::Call(Refusal::File(Fault::BadItem(ItemRule::Actions, 36))),
         _ => Row::Call(Refusal::MemoryShort),
     }
 }

@@ -3,14 +3,53 @@ ghost use mathlib.Core.Path.{_≡_};
 ghost use Prim.Native.Nat.{_+_, _≤_};
 ghost use lib.ListN.{length};
 ghost use Rattle.ascii.specs.Laying.{Laid};
-ghost use Rattle.wording.specs.Words.{faultWords, refusalWords, transcriptWords, extendedWords, unfoldingWords, mostWords, faultPlaced, placed};
+ghost use Rattle.wording.specs.Words.{ruleWords, faultWords, refusalWords, transcriptWords, extendedWords, unfoldingWords, mostWords, faultPlaced, placed};
 use ascii::put_bytes;
 use contents::Fault;
+use contents::ItemRule;
 use session::Refusal;
 use text::Transcript;
 use unfolding::Unfolding;
 
-// The words of a fault behind the first `at` bytes. Answers where the next byte goes.
+// The words of an item's rule behind the first `at` bytes. Answers where the next byte goes.
+fn put_rule_words(out: &mut [u8], at: usize, r: ItemRule) -> usize
+    requires { ⌜ at + mostWords ≤ length (now out) ⌝ }
+    ensures { λ end. ⌜ Laid (now (out .entry)) at (ruleWords r) (now (out .exit)) end × (end ≤ at + mostWords) ⌝ }
+{
+    match r {
+        ItemRule::Kind => put_bytes(out, at, b"an item's kind, not 0 or 1"),
+        ItemRule::Synchrony => put_bytes(
+            out,
+            at,
+            b"an item's words, out of range or not 0 on an action",
+        ),
+        ItemRule::ErrorWord => put_bytes(
+            out,
+            at,
+            b"an item's words, out of range or not 0 on an action",
+        ),
+        ItemRule::Part => put_bytes(out, at, b"an item's part, above 15 or not its group's"),
+        ItemRule::Delay => put_bytes(out, at, b"an item's delay, above 5,040,000"),
+        ItemRule::Event => put_bytes(
+            out,
+            at,
+            b"an item's event, out of range, out of order by event and part, or not 0 within a group",
+        ),
+        ItemRule::Nesting => put_bytes(
+            out,
+            at,
+            b"an item's nesting, at depth 9 or a group that ends past what holds it",
+        ),
+        ItemRule::Message => put_bytes(
+            out,
+            at,
+            b"an action's message number, not below the message count",
+        ),
+        ItemRule::Actions => put_bytes(out, at, b"the 1,025th action"),
+    }
+}
+
+// The same for every fault.
 fn put_fault_words(out: &mut [u8], at: usize, x: Fault) -> usize
     requires { ⌜ at + mostWords ≤ length (now out) ⌝ }
     ensures { λ r. ⌜ Laid (now (out .entry)) at (faultWords x) (now (out .exit)) r × (r ≤ at + mostWords) ⌝ }
@@ -21,11 +60,7 @@ fn put_fault_words(out: &mut [u8], at: usize, x: Fault) -> usize
         Fault::BadOffset(_) => put_bytes(out, at, b"an offset not as above"),
         Fault::BadLength => put_bytes(out, at, b"offsets right, file length wrong"),
         Fault::BadEvent(_) => put_bytes(out, at, b"an event's duration"),
-        Fault::BadItem(_) => put_bytes(
-            out,
-            at,
-            b"an item against the rules; also the 1,025th action",
-        ),
+        Fault::BadItem(rule, _) => put_rule_words(out, at, rule),
         Fault::BadMessage(_) => put_bytes(out, at, b"a message entry or its label bytes"),
         Fault::TextLeft => put_bytes(out, at, b"entries right, text not used up"),
         Fault::NoMessage => put_bytes(out, at, b"no such message"),
@@ -107,7 +142,7 @@ fn fault_placed(x: Fault) -> bool
         Fault::BadOffset(_) => true,
         Fault::BadLength => false,
         Fault::BadEvent(_) => true,
-        Fault::BadItem(_) => true,
+        Fault::BadItem(_, _) => true,
         Fault::BadMessage(_) => true,
         Fault::TextLeft => true,
         Fault::NoMessage => false,

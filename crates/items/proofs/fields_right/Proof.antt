@@ -2,7 +2,7 @@
 -- Assumes nothing.
 use borrow.Author.Needs.{needs}
 use Rattle.base.proofs.TestLaws.{calls}
-use Rattle.items.specs.Items.{fieldsRight}
+use Rattle.items.specs.Inner.{fieldsRight}
 use Rattle.items.proofs.fields_right.Statement.{statement}
 use Rattle.items.proofs.fields_right.Tie as tie
 
@@ -22,6 +22,10 @@ returns-4 : tie.Need-returns-4
 unfolding fieldsRight
 returns-4 c = search calls depth 9
 
+returns-5 : tie.Need-returns-5
+unfolding fieldsRight
+returns-5 c = search calls depth 9
+
 pub fields-right-spec : {M : Type 1} → statement M
 fields-right-spec =
     tie.close
@@ -33,4 +37,6 @@ fields-right-spec =
     (λ c κs. search needs)
     returns-3
     (λ c κs. search needs)
-    returns-4)
+    returns-4
+    (λ c κs. search needs)
+    returns-5)

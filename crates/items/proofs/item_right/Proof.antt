@@ -1,18 +1,17 @@
--- What each rule told, in the order of the definition.
+-- What each half of the rules told, in the order of the definition.
 -- Assumes nothing.
+use mathlib.Core.Path.{_≡_}
 use borrow.Author.Needs.{needs}
 use Rattle.base.proofs.TestLaws.{calls}
-use Rattle.items.specs.Items.{itemRight}
+use Rattle.items.proofs.RuleLaws.{right-halves}
 use Rattle.items.proofs.item_right.Statement.{statement}
 use Rattle.items.proofs.item_right.Tie as tie
 
 returns : tie.Need-returns
-unfolding itemRight
-returns c = search calls depth 9
+returns c = rw right-halves (search calls depth 9)
 
 returns-2 : tie.Need-returns-2
-unfolding itemRight
-returns-2 c = search calls depth 9
+returns-2 c = rw right-halves (search calls depth 9)
 
 pub item-right-spec : {M : Type 1} → statement M
 item-right-spec =

@@ -2,7 +2,7 @@
 -- Assumes nothing.
 use borrow.Author.Needs.{needs}
 use Rattle.base.proofs.TestLaws.{calls}
-use Rattle.items.specs.Items.{standingRight}
+use Rattle.items.specs.Inner.{standingRight}
 use Rattle.items.proofs.standing_right.Statement.{statement}
 use Rattle.items.proofs.standing_right.Tie as tie
 

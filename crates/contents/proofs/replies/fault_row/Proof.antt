@@ -2,15 +2,23 @@
 -- Assumes nothing.
 use borrow.Author.Needs.{needs}
 use mathlib.Core.Path.{_≡_}
+use Prim.Native.Nat.{ℕ}
 use Rattle.contents.specs.declared.Fault.{Fault}
 use Rattle.contents.specs.declared.Reply.{Reply}
-use Rattle.contents.specs.Replies.{faultRow}
+use Rattle.contents.specs.declared.ItemRule.{ItemRule}
+use Rattle.contents.specs.declared.Fault.the-variants.{BadItem}
+use Rattle.contents.specs.Replies.{ruleRow, faultRow}
 use Rattle.contents.proofs.replies.fault_row.Statement.{statement}
 use Rattle.contents.proofs.replies.fault_row.Tie as tie
 
 -- the row of a case is the row of the fault that is this case
 case-of : (x y : Fault) (r : Reply) → x ≡ y → r ≡ faultRow y → r ≡ faultRow x
 case-of x y r e p = rw e p
+
+-- an item's fault has its rule's number
+item-case : (x : Fault) (rule : ItemRule) (at : ℕ) (told r : Reply) → x ≡ BadItem rule at → told ≡ ruleRow rule → r ≡ record { number = told .number; place = at } → r ≡ faultRow x
+unfolding faultRow
+item-case x rule at told r e p q = rw (e, ← p) q
 
 returns : tie.Need-returns
 unfolding faultRow
@@ -33,8 +41,7 @@ unfolding faultRow
 returns-5 c = search case-of
 
 returns-6 : tie.Need-returns-6
-unfolding faultRow
-returns-6 c = search case-of
+returns-6 c = search item-case
 
 returns-7 : tie.Need-returns-7
 unfolding faultRow
@@ -63,6 +70,7 @@ fault-row-spec =
     (λ c. search needs)
     (λ c κs. search needs)
     (λ c. search needs)
+    (λ c κs. search needs)
     (λ c κs. search needs)
     (λ c. search needs)
     (λ c κs. search needs)

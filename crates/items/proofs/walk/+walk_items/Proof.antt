@@ -14,6 +14,7 @@ use Rattle.items.proofs.walk.walk_items.Reads as walk-items
 use Rattle.items.proofs.walk.walk_items.Kinds as walk-items-kinds
 use Rattle.items.proofs.walk.+walk_items.Lts-walk_items as lts
 use Rattle.items.proofs.walk.judge.Reads as judge-reads
+use Rattle.items.proofs.walk.fault_at.Reads as fault-at-reads
 use Rattle.items.proofs.walk.+walk_items.{statement}
 use Rattle.items.proofs.walk.+walk_items.Tie.{close}
 
@@ -36,7 +37,7 @@ abbrev μ-loop : lts.MeasureT-loop
 μ-loop file c at count actions i₀ left₀ event₀ part₀ n₀ depth i left event part n = left
 
 abbrev claims : ℕ → lts.Claims
-claims t = (judge-reads.Asked, judge-reads.Learnt, below t, walk-items.Post)
+claims t = (judge-reads.Asked, judge-reads.Learnt, fault-at-reads.Asked, fault-at-reads.Learnt, below t, walk-items.Post)
 
 loop-holds : (t : ℕ) → lts.Need-loop-holds (claims t) (at-most t) walk-items.Post Inv-loop μ-loop
 loop-holds t c = search walks
@@ -46,6 +47,12 @@ sub-judge t c = search walks
 
 judge-requires : (t : ℕ) → lts.Need-judge-requires (claims t) (at-most t) walk-items.Post Inv-loop μ-loop
 judge-requires t c κs = search walks
+
+sub-fault-at : (t : ℕ) → lts.Need-sub-fault-at (claims t) (at-most t) walk-items.Post Inv-loop μ-loop
+sub-fault-at t c = search walks
+
+fault-at-requires : (t : ℕ) → lts.Need-fault-at-requires (claims t) (at-most t) walk-items.Post Inv-loop μ-loop
+fault-at-requires t c κs = search walks
 
 returns : (t : ℕ) → lts.Need-returns (claims t) (at-most t) walk-items.Post Inv-loop μ-loop
 returns t c = search walks
@@ -104,6 +111,8 @@ pub +walk-items-spec : {M : Type 1} → statement M
     (loop-holds t)
     (sub-judge t)
     (judge-requires t)
+    (sub-fault-at t)
+    (fault-at-requires t)
     (returns t)
     (add-walk-items t)
     (add-walk-items-2 t)

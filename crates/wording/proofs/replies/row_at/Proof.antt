@@ -7,7 +7,7 @@ use Rattle.wording.proofs.RowLaws.{row-case, row-beyond}
 use Rattle.wording.proofs.replies.row_at.Statement.{statement}
 use Rattle.wording.proofs.replies.row_at.Tie as tie
 
-beyond : tie.Need-returns-24
+beyond : tie.Need-returns-31
 beyond c = row-beyond _ (none-of rowCount _ (c .match .rest))
 
 pub row-at-spec : {M : Type 1} → statement M
@@ -38,4 +38,11 @@ row-at-spec =
     (λ c. row-case _ 20 _ (c .match .keys21) refl)
     (λ c. row-case _ 21 _ (c .match .keys22) refl)
     (λ c. row-case _ 22 _ (c .match .keys23) refl)
+    (λ c. row-case _ 23 _ (c .match .keys24) refl)
+    (λ c. row-case _ 24 _ (c .match .keys25) refl)
+    (λ c. row-case _ 25 _ (c .match .keys26) refl)
+    (λ c. row-case _ 26 _ (c .match .keys27) refl)
+    (λ c. row-case _ 27 _ (c .match .keys28) refl)
+    (λ c. row-case _ 28 _ (c .match .keys29) refl)
+    (λ c. row-case _ 29 _ (c .match .keys30) refl)
     beyond)
