@@ -1,4 +1,4 @@
--- The name of an entry is laid as its case has it, and has no more bytes than there is room for.
+-- The names of an entry and of an item's field are laid as their case has them, and have no more bytes than there is room for.
 -- Assumes nothing.
 use mathlib.Core.Path.{_≡_}
 use mathlib.Core.Bool.{true}
@@ -12,10 +12,15 @@ use borrow.Author.Tests.{leb-true}
 use Rattle.ascii.specs.Decimals.{decimal}
 use Rattle.ascii.specs.Laying.{Laid}
 use Rattle.ascii.specs.Text.{bytesOf}
-use Rattle.ascii.proofs.LayLaws.{laid-nothing}
+use Rattle.ascii.proofs.LayLaws.{laid-nothing, laid-join}
+use Rattle.contents.specs.declared.Fault.{Fault}
+use Rattle.contents.specs.declared.Fault.the-variants.{BadItem}
+use Rattle.contents.specs.declared.ItemRule.{ItemRule}
+use Rattle.session.specs.declared.Refusal.{Refusal}
+use Rattle.session.specs.declared.Refusal.the-variants.{File}
 use Rattle.refusals.specs.declared.entries.Entry.{Entry}
 use Rattle.refusals.specs.declared.entries.Entry.the-variants.{Nowhere, Contents, Event, Item, Message}
-use Rattle.refusals.specs.Entries.{fieldWords, fieldCount, entryWords, entryRoom}
+use Rattle.refusals.specs.Entries.{fieldWords, fieldCount, entryWords, entryRoom, ruleField, ruleRoom, faultField, fieldOf, namedWords}
 
 -- ---- a field of the contents
 
@@ -55,3 +60,37 @@ module _ (o : List ℕ) (at : ℕ) (e : Entry) where
     name-message p l = rw p l
 
 pub ruleset naming = (name-none, name-field, name-event, name-item, name-message, needs)
+
+-- ---- an item's field
+
+pub rule-case : {o m words : List ℕ} {at r : ℕ} {x y : ItemRule} → x ≡ y → Laid o at words m r → ruleField y ≡ words → leb (length words) ruleRoom ≡ true
+    → Laid o at (ruleField x) m r × (r ≤ at + ruleRoom)
+rule-case {o} {m} {words} {at} {r} e laid p q =
+    let s : r ≡ at + length words = laid .stop in
+    let l : length words ≤ ruleRoom = leb-true (length words) ruleRoom q in
+    (rw (e, p) laid, omega arith)
+
+module _ (o : List ℕ) (at : ℕ) (room : at + ruleRoom ≤ length o) where
+  pub rule-none : (x y : ItemRule) → x ≡ y → ruleField y ≡ [] → Laid o at (ruleField x) o at
+  rule-none x y e p = rw (e, p) (laid-nothing o at (omega arith))
+
+  pub fault-none : (x y : Fault) → x ≡ y → faultField y ≡ [] → Laid o at (faultField x) o at
+  fault-none x y e p = rw (e, p) (laid-nothing o at (omega arith))
+
+  pub refusal-none : (x y : Refusal) → x ≡ y → fieldOf y ≡ [] → Laid o at (fieldOf x) o at
+  refusal-none x y e p = rw (e, p) (laid-nothing o at (omega arith))
+
+module _ (o m : List ℕ) (at r : ℕ) where
+  pub fault-item : (x : Fault) (rule : ItemRule) (place : ℕ) → x ≡ BadItem rule place → Laid o at (ruleField rule) m r → Laid o at (faultField x) m r
+  unfolding faultField
+  fault-item x rule place e laid = rw e laid
+
+  pub refusal-file : (x : Refusal) (f : Fault) → x ≡ File f → Laid o at (faultField f) m r → Laid o at (fieldOf x) m r
+  unfolding fieldOf
+  refusal-file x f e laid = rw e laid
+
+pub lay-named : (o m n : List ℕ) (at a r : ℕ) (e : Entry) (x : Refusal) → Laid o at (entryWords e) m a → Laid m a (fieldOf x) n r → Laid o at (namedWords e x) n r
+unfolding namedWords
+lay-named o m n at a r e x p q = laid-join o m n _ _ at a r p q
+
+pub ruleset fields = (rule-none, fault-none, refusal-none, fault-item, refusal-file, lay-named, needs)

@@ -19,7 +19,7 @@ use Rattle.text.specs.declared.TextReply.{TextReply}
 use Rattle.text.specs.Replies.{transcriptRow}
 use Rattle.wording.specs.Words.{refusalWords, transcriptWords}
 use Rattle.refusals.specs.declared.entries.Entry.{Entry}
-use Rattle.refusals.specs.Entries.{entryAt, entryWords}
+use Rattle.refusals.specs.Entries.{entryAt, namedWords}
 use Rattle.refusals.specs.Line.{placeWords}
 use Rattle.refusals.specs.Texts.{spotWords, toldEnd, toldWords, misreadLine, roomLine, refusedHead, unmadeWords, refusedEnd, unmadeLine}
 
@@ -29,7 +29,7 @@ module _ (o m₁ m₂ n : List ℕ) (at a b r : ℕ) where
   three x y z p q s = laid-join o m₁ n _ _ at a r p (laid-join m₁ m₂ n _ _ a b r q s)
 
   pub lay-unmade : (c : Counts) (x : Refusal) (row : Reply) (entry : Entry) → row ≡ refusalRow x → entry ≡ entryAt c (row .place) → Laid o at (placeWords x) m₁ a
-      → Laid m₁ a (bytesOf " of the file it would make") m₂ b → Laid m₂ b (entryWords entry) n r → Laid o at (unmadeWords c x) n r
+      → Laid m₁ a (bytesOf " of the file it would make") m₂ b → Laid m₂ b (namedWords entry x) n r → Laid o at (unmadeWords c x) n r
   unfolding unmadeWords
   lay-unmade c x row entry h e p q s = rw (← h, ← e) (three _ _ _ p q s)
 

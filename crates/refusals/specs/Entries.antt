@@ -1,4 +1,4 @@
--- Which entry of a score file a byte lies in, and its name for people.
+-- Which entry of a score file a byte lies in, its name for people, and the name of the field that an item's rule is about.
 use Prim.Native.Nat.{ℕ, _+_, _-_, _/_}
 use mathlib.Core.List.{List, [], _∷_, _++_}
 use lib.Dec.{leb, ltb}
@@ -7,9 +7,14 @@ use Rattle.base.specs.Tests.{pick}
 use Rattle.ascii.specs.Decimals.{decimal}
 use Rattle.ascii.specs.Text.{bytesOf}
 use Rattle.contents.specs.declared.Counts.{Counts}
+use Rattle.contents.specs.declared.Fault.{Fault}
+use Rattle.contents.specs.declared.Fault.the-variants.{FileShort, BadCount, BadOffset, BadLength, BadEvent, BadItem, BadMessage, TextLeft, NoMessage}
+use Rattle.contents.specs.declared.ItemRule.{ItemRule}
+use Rattle.contents.specs.declared.ItemRule.the-variants as rule
 use Rattle.contents.specs.Limits.{contentsSize, eventSize, itemSize, messageSize}
 use Rattle.contents.specs.Contents.{countsOf, eventsAt, itemsAt, messagesAt, textAt}
 use Rattle.session.specs.declared.Refusal.{Refusal}
+use Rattle.session.specs.declared.Refusal.the-variants.{MemoryShort, RoomShort, File, BadTempo, BadGrace, NoSession, NoEvent, NotAfter, BadMillis, ClockFull}
 use Rattle.session.specs.Replies.{refusalRow}
 use Rattle.refusals.specs.declared.entries.Entry.{Entry}
 use Rattle.refusals.specs.declared.entries.Entry.the-variants.{Nowhere, Contents, Event, Item, Message}
@@ -58,3 +63,49 @@ entryWords (Message n) = bytesOf ", message " ++ decimal n
 
 abbrev pub entryRoom : ℕ
 entryRoom = 30
+
+-- "Item: 12 bytes: kind, synchrony, error word, part, delay (u32), event (u16), last (u16)." The field that a rule is about, and room for its name; the number of actions is about none.
+unfoldable pub ruleField : ItemRule → List ℕ
+ruleField rule.Kind = bytesOf ", kind"
+ruleField rule.Synchrony = bytesOf ", synchrony"
+ruleField rule.ErrorWord = bytesOf ", error word"
+ruleField rule.Part = bytesOf ", part"
+ruleField rule.Delay = bytesOf ", delay"
+ruleField rule.Event = bytesOf ", event"
+ruleField rule.Nesting = bytesOf ", last"
+ruleField rule.Message = bytesOf ", last"
+ruleField rule.Actions = []
+
+abbrev pub ruleRoom : ℕ
+ruleRoom = 12
+
+-- The field at fault, where the refusal is an item's.
+unfoldable pub faultField : Fault → List ℕ
+faultField FileShort = []
+faultField (BadCount at) = []
+faultField (BadOffset at) = []
+faultField BadLength = []
+faultField (BadEvent at) = []
+faultField (BadItem r at) = ruleField r
+faultField (BadMessage at) = []
+faultField TextLeft = []
+faultField NoMessage = []
+
+unfoldable pub fieldOf : Refusal → List ℕ
+fieldOf MemoryShort = []
+fieldOf RoomShort = []
+fieldOf (File x) = faultField x
+fieldOf BadTempo = []
+fieldOf BadGrace = []
+fieldOf NoSession = []
+fieldOf NoEvent = []
+fieldOf NotAfter = []
+fieldOf BadMillis = []
+fieldOf ClockFull = []
+
+-- An entry and the field of it that is at fault, as `, item 6, delay`, and room for both.
+unfoldable pub namedWords : Entry → Refusal → List ℕ
+namedWords e x = entryWords e ++ fieldOf x
+
+abbrev pub namedRoom : ℕ
+namedRoom = 42

@@ -1,4 +1,4 @@
--- The line that tells people of a refusal, as `old.bin: refused 7 at byte 116, item 6: an item against the rules; also the 1,025th action`.
+-- The line that tells people of a refusal, as `old.bin: refused 23 at byte 120, item 6, delay: an item's delay, above 5,040,000`.
 use Prim.Native.Nat.{ℕ}
 use mathlib.Core.List.{List, [], _∷_, _++_}
 use Rattle.base.specs.Tests.{pick}
@@ -8,7 +8,7 @@ use Rattle.session.specs.declared.Refusal.{Refusal}
 use Rattle.session.specs.Replies.{refusalRow}
 use Rattle.ascii.specs.Text.{bytesOf}
 use Rattle.wording.specs.Words.{refusalWords, placed}
-use Rattle.refusals.specs.Entries.{entryOf, entryWords}
+use Rattle.refusals.specs.Entries.{entryOf, namedWords}
 
 -- A place in the file, and room for it: its word, and a number of 20 digits.
 unfoldable pub atByte : ℕ → List ℕ
@@ -21,9 +21,9 @@ placeRoom = 29
 unfoldable pub placeWords : Refusal → List ℕ
 placeWords x = pick (placed x) (atByte (refusalRow x .place)) []
 
--- The place, and the entry that it lies in, as ` at byte 116, item 6`.
+-- The place, the entry that it lies in, and an item's field, as ` at byte 120, item 6, delay`.
 unfoldable pub whereWords : (file : List ℕ) → Refusal → List ℕ
-whereWords file x = placeWords x ++ entryWords (entryOf file x)
+whereWords file x = placeWords x ++ namedWords (entryOf file x) x
 
 -- What is refused, then the table's row: number, place and words.
 unfoldable pub refusalLine : (name file : List ℕ) → Refusal → List ℕ
@@ -32,4 +32,4 @@ refusalLine name file x =
 
 -- Room for the line of any refusal, without its name.
 abbrev pub refusalRoom : ℕ
-refusalRoom = 160
+refusalRoom = 192

@@ -1,5 +1,5 @@
 -- The lines that tell people of a text that is refused: for a byte of its own, as `new.txt:12:7: refused 16: text against the grammar`; or for what its file would be, as
--- `new.txt: refused 7 at byte 116 of the file it would make, item 6: an item against the rules; also the 1,025th action`.
+-- `new.txt: refused 23 at byte 120 of the file it would make, item 6, delay: an item's delay, above 5,040,000`.
 use Prim.Native.Nat.{ℕ}
 use mathlib.Core.List.{List, [], _∷_, _++_}
 use Rattle.ascii.specs.Words.{newline}
@@ -12,7 +12,7 @@ use Rattle.text.specs.declared.Transcript.{Transcript}
 use Rattle.text.specs.declared.Transcript.the-variants.{NoRoom, BadText}
 use Rattle.text.specs.Replies.{transcriptRow}
 use Rattle.wording.specs.Words.{refusalWords, transcriptWords}
-use Rattle.refusals.specs.Entries.{entryAt, entryWords}
+use Rattle.refusals.specs.Entries.{entryAt, namedWords}
 use Rattle.refusals.specs.Line.{placeWords}
 
 -- ---- a byte of the text
@@ -40,16 +40,16 @@ abbrev pub spotRoom : ℕ
 spotRoom = 42
 
 abbrev pub toldRoom : ℕ
-toldRoom = 83
+toldRoom = 119
 
 -- ---- a byte of the file that the text would make
 
 unfoldable pub refusedHead : (name : List ℕ) → Refusal → List ℕ
 refusedHead name x = name ++ (bytesOf ": refused " ++ decimal (refusalRow x .number))
 
--- The place in that file, and the entry that it lies in, by the counts of what the text says.
+-- The place in that file, the entry that it lies in, by the counts of what the text says, and an item's field.
 unfoldable pub unmadeWords : Counts → Refusal → List ℕ
-unmadeWords c x = placeWords x ++ (bytesOf " of the file it would make" ++ entryWords (entryAt c (refusalRow x .place)))
+unmadeWords c x = placeWords x ++ (bytesOf " of the file it would make" ++ namedWords (entryAt c (refusalRow x .place)) x)
 
 unfoldable pub refusedEnd : Refusal → List ℕ
 refusedEnd x = bytesOf ": " ++ (refusalWords x ++ (newline ∷ []))
@@ -62,11 +62,11 @@ abbrev pub headRoom : ℕ
 headRoom = 30
 
 abbrev pub unmadeRoom : ℕ
-unmadeRoom = 85
+unmadeRoom = 97
 
 abbrev pub endRoom : ℕ
-endRoom = 53
+endRoom = 89
 
 -- Room for either line, without its name.
 abbrev pub textLineRoom : ℕ
-textLineRoom = 168
+textLineRoom = 216

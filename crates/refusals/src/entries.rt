@@ -1,12 +1,14 @@
-// Which entry of a score file a byte lies in, and its name for people.
+// Which entry of a score file a byte lies in, its name for people, and the name of the field that an item's rule is about.
 ghost use mathlib.Core.Path.{_≡_};
 ghost use mathlib.Core.List.{[]};
 ghost use Prim.Native.Nat.{_+_, _≤_};
 ghost use lib.ListN.{length, getD};
 ghost use Rattle.ascii.specs.Laying.{Laid};
-ghost use Rattle.refusals.specs.Entries.{entryAt, entryOf, entryWords, entryRoom, fieldWords};
+ghost use Rattle.refusals.specs.Entries.{entryAt, entryOf, entryWords, entryRoom, fieldWords, ruleField, ruleRoom, faultField, fieldOf, namedWords, namedRoom};
 use ascii::put_bytes;
 use contents::Counts;
+use contents::Fault;
+use contents::ItemRule;
 use contents::limits::CONTENTS_SIZE;
 use contents::limits::EVENT_SIZE;
 use contents::limits::ITEM_SIZE;
@@ -92,4 +94,67 @@ pub fn put_entry(out: &mut [u8], at: usize, e: Entry) -> usize
         Entry::Item(n) => put_counted(out, at, b", item ", n),
         Entry::Message(n) => put_counted(out, at, b", message ", n),
     }
+}
+
+// The name of the field that a rule is about, behind the first `at` bytes. Answers where the next byte goes.
+fn put_rule_field(out: &mut [u8], at: usize, r: ItemRule) -> usize
+    requires { ⌜ at + ruleRoom ≤ length (now out) ⌝ }
+    ensures { λ end. ⌜ Laid (now (out .entry)) at (ruleField r) (now (out .exit)) end × (end ≤ at + ruleRoom) ⌝ }
+{
+    match r {
+        ItemRule::Kind => put_bytes(out, at, b", kind"),
+        ItemRule::Synchrony => put_bytes(out, at, b", synchrony"),
+        ItemRule::ErrorWord => put_bytes(out, at, b", error word"),
+        ItemRule::Part => put_bytes(out, at, b", part"),
+        ItemRule::Delay => put_bytes(out, at, b", delay"),
+        ItemRule::Event => put_bytes(out, at, b", event"),
+        ItemRule::Nesting => put_bytes(out, at, b", last"),
+        ItemRule::Message => put_bytes(out, at, b", last"),
+        ItemRule::Actions => at,
+    }
+}
+
+// The same for every fault, and for every refusal.
+fn put_fault_field(out: &mut [u8], at: usize, x: Fault) -> usize
+    requires { ⌜ at + ruleRoom ≤ length (now out) ⌝ }
+    ensures { λ end. ⌜ Laid (now (out .entry)) at (faultField x) (now (out .exit)) end × (end ≤ at + ruleRoom) ⌝ }
+{
+    match x {
+        Fault::FileShort => at,
+        Fault::BadCount(_) => at,
+        Fault::BadOffset(_) => at,
+        Fault::BadLength => at,
+        Fault::BadEvent(_) => at,
+        Fault::BadItem(rule, _) => put_rule_field(out, at, rule),
+        Fault::BadMessage(_) => at,
+        Fault::TextLeft => at,
+        Fault::NoMessage => at,
+    }
+}
+
+fn put_item_field(out: &mut [u8], at: usize, x: Refusal) -> usize
+    requires { ⌜ at + ruleRoom ≤ length (now out) ⌝ }
+    ensures { λ end. ⌜ Laid (now (out .entry)) at (fieldOf x) (now (out .exit)) end × (end ≤ at + ruleRoom) ⌝ }
+{
+    match x {
+        Refusal::MemoryShort => at,
+        Refusal::RoomShort => at,
+        Refusal::File(f) => put_fault_field(out, at, f),
+        Refusal::BadTempo => at,
+        Refusal::BadGrace => at,
+        Refusal::NoSession => at,
+        Refusal::NoEvent => at,
+        Refusal::NotAfter => at,
+        Refusal::BadMillis => at,
+        Refusal::ClockFull => at,
+    }
+}
+
+// The name of an entry, and of the field of it that is at fault.
+pub fn put_named(out: &mut [u8], at: usize, e: Entry, x: Refusal) -> usize
+    requires { ⌜ at + namedRoom ≤ length (now out) ⌝ }
+    ensures { λ r. ⌜ Laid (now (out .entry)) at (namedWords e x) (now (out .exit)) r × (r ≤ at + namedRoom) ⌝ }
+{
+    let at = put_entry(out, at, e);
+    put_item_field(out, at, x)
 }

@@ -2,10 +2,10 @@
 ghost use Prim.Native.Nat.{_+_, _≤_};
 ghost use lib.ListN.{length};
 ghost use Rattle.ascii.specs.Laying.{Laid};
-ghost use Rattle.refusals.specs.Entries.{entryRoom};
+ghost use Rattle.refusals.specs.Entries.{namedRoom};
 ghost use Rattle.refusals.specs.Line.{placeWords, placeRoom, whereWords, refusalLine, refusalRoom};
 use crate::entries::entry_of;
-use crate::entries::put_entry;
+use crate::entries::put_named;
 use ascii::NEWLINE;
 use ascii::put_byte;
 use ascii::put_bytes;
@@ -27,13 +27,13 @@ pub fn put_place(out: &mut [u8], at: usize, x: Refusal) -> usize
     at
 }
 
-// The place, and the entry of `file` that it lies in.
+// The place, the entry of `file` that it lies in, and an item's field.
 fn put_where(out: &mut [u8], at: usize, file: &[u8], x: Refusal) -> usize
-    requires { ⌜ at + placeRoom + entryRoom ≤ length (now out) ⌝ }
-    ensures { λ r. ⌜ Laid (now (out .entry)) at (whereWords (now (file .entry)) x) (now (out .exit)) r × (r ≤ at + placeRoom + entryRoom) ⌝ }
+    requires { ⌜ at + placeRoom + namedRoom ≤ length (now out) ⌝ }
+    ensures { λ r. ⌜ Laid (now (out .entry)) at (whereWords (now (file .entry)) x) (now (out .exit)) r × (r ≤ at + placeRoom + namedRoom) ⌝ }
 {
     let at = put_place(out, at, x);
-    put_entry(out, at, entry_of(file, x))
+    put_named(out, at, entry_of(file, x), x)
 }
 
 // The line of a refusal from the front of `out`: what is refused, the number, the place with its entry in `file`, and the words. Answers its length.

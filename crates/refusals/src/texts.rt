@@ -5,7 +5,7 @@ ghost use Rattle.ascii.specs.Laying.{Laid};
 ghost use Rattle.text.specs.declared.Transcript.the-variants.{BadText};
 ghost use Rattle.refusals.specs.Texts.{spotWords, toldEnd, toldWords, misreadLine, roomLine, spotRoom, toldRoom, refusedHead, unmadeWords, refusedEnd, unmadeLine, headRoom, unmadeRoom, endRoom, textLineRoom};
 use crate::entries::entry_at;
-use crate::entries::put_entry;
+use crate::entries::put_named;
 use crate::line::put_place;
 use ascii::NEWLINE;
 use ascii::put_byte;
@@ -75,14 +75,14 @@ fn put_head(out: &mut [u8], name: &[u8], x: Refusal) -> usize
     put_counted(out, at, b": refused ", refusal_row(x).number)
 }
 
-// The place, in a file of these counts that would be made, and its entry there.
+// The place, in a file of these counts that would be made, its entry there, and an item's field.
 fn put_unmade(out: &mut [u8], at: usize, c: Counts, x: Refusal) -> usize
     requires { ⌜ at + unmadeRoom ≤ length (now out) ⌝ }
     ensures { λ r. ⌜ Laid (now (out .entry)) at (unmadeWords c x) (now (out .exit)) r × (r ≤ at + unmadeRoom) ⌝ }
 {
     let at = put_place(out, at, x);
     let at = put_bytes(out, at, b" of the file it would make");
-    put_entry(out, at, entry_at(c, refusal_row(x).place))
+    put_named(out, at, entry_at(c, refusal_row(x).place), x)
 }
 
 // The words of a refusal, and the line's end.

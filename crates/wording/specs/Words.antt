@@ -25,7 +25,7 @@ use Rattle.ascii.specs.Text.{bytesOf}
 unfoldable pub ruleWords : ItemRule → List ℕ
 ruleWords rule.Kind = bytesOf "an item's kind, not 0 or 1"
 ruleWords rule.Synchrony = bytesOf "an item's words, out of range or not 0 on an action"
-ruleWords rule.ErrorWord = ruleWords rule.Synchrony
+ruleWords rule.ErrorWord = bytesOf "an item's words, out of range or not 0 on an action"
 ruleWords rule.Part = bytesOf "an item's part, above 15 or not its group's"
 ruleWords rule.Delay = bytesOf "an item's delay, above 5,040,000"
 ruleWords rule.Event = bytesOf "an item's event, out of range, out of order by event and part, or not 0 within a group"

@@ -1,4 +1,4 @@
--- The place is laid, and its entry behind it.
+-- The place is laid, and behind it its entry and an item's field.
 -- Assumes nothing.
 use Rattle.refusals.proofs.LineLaws.{wheres}
 use Rattle.refusals.proofs.line.put_where.Statement.{statement}
