@@ -10,13 +10,14 @@ use mir.Val.{SFits, ofZ, toZ}
 use mir.Facts.{toZ-ofZ}
 use borrow.Author.Needs.{needs}
 use Rattle.base.specs.Tests.{pick}
+use Rattle.base.specs.Checks.{isFine}
 use Rattle.ascii.specs.Laying.{Laid}
 use Rattle.streams.proofs.CallSteps.{bits-say}
 use Rattle.reasons.specs.Reasons.{unreadLine}
 use Rattle.checking.specs.declared.run.Came.{Came}
 use Rattle.checking.specs.declared.run.Came.the-variants as came
 use Rattle.checking.specs.declared.line.Checked.{Checked}
-use Rattle.checking.specs.Checked.{isFine, CheckTold}
+use Rattle.checking.specs.Checked.{CheckTold}
 use Rattle.checking.specs.Account.{wasRead, accountLine, checkedCame, cameOf, AccountTold}
 
 pub was-read : (e : ℤ) → SFits w32 e → ofZ w32 e ≡ 0 → wasRead e ≡ true

@@ -13,13 +13,15 @@ use Rattle.base.specs.Checks.{refused}
 use Rattle.base.proofs.CheckLaws.{need-fine}
 use Rattle.contents.specs.declared.Fault.{Fault}
 use Rattle.contents.specs.declared.Fault.the-variants.{FileShort, BadCount, BadOffset, BadLength, BadEvent, BadItem, BadMessage, TextLeft, NoMessage}
+use Rattle.contents.specs.declared.ItemRule.{ItemRule}
 use Rattle.contents.specs.declared.Counts.{Counts}
 use Rattle.contents.specs.Limits.{contentsSize, eventSize, itemSize, messageSize, longest}
 use Rattle.contents.specs.Contents.{countsOf, offsetsOf, countsRight, offsetsRight, eventsAt, itemsAt, messagesAt}
-use Rattle.contents.specs.Replies.{faultRow}
+use Rattle.contents.specs.Replies.{ruleRow, faultRow}
 use Rattle.items.specs.declared.Setting.{Setting}
 use Rattle.items.specs.Items.{itemRight, outset, itemsRight}
 use Rattle.items.specs.Ranged.{blank}
+use Rattle.items.proofs.RuleLaws.{field-within}
 use Rattle.messages.specs.Messages.{messageRight, messagesRight}
 use Rattle.score.specs.Events.{eventsRight}
 use Rattle.score.specs.Piece.{decode}
@@ -48,9 +50,10 @@ pub data Named (f : List ℕ) : Fault → Entry → Type 0 where
   -- Its duration is wrong, and those before it are right.
   event : (k : ℕ) → k < countsOf f .events → between 1 longest (getD (decode f .durations) k 0) ≡ false
       → ((j : ℕ) → j < k → between 1 longest (getD (decode f .durations) j 0) ≡ true) → Named f (BadEvent (eventsAt + eventSize * k)) (Event (1 + k))
-  -- It is wrong where it stands, and those before it are right.
+  -- It is wrong where it stands, this is the first rule that it breaks, and those before it are right. The place is that of the rule's field.
   item : (p : ℕ) → p < countsOf f .items → (h : Setting) (left actions : ℕ) → Standing (countsOf f) (decode f .items) outset 0 p h left actions
-      → itemRight (getD (decode f .items) p blank) (countsOf f) h left actions ≡ false → Named f (BadItem (itemsAt (countsOf f) + itemSize * p)) (Item p)
+      → (r : ItemRule) → itemRight (getD (decode f .items) p blank) (countsOf f) h left actions ≡ refused r
+      → Named f (BadItem r (itemsAt (countsOf f) + itemSize * p + ruleRow r .place)) (Item p)
   -- The entry or its label is wrong, where the text of those before it ends, and they are right.
   message : (n : ℕ) → n < countsOf f .messages
       → messageRight f (countsOf f) (messagesAt (countsOf f) + messageSize * n) (textTo f (messagesAt (countsOf f)) n 0) ≡ false
@@ -67,11 +70,12 @@ module _ (c : Counts) where
       let q : (eventsAt + eventSize * k - eventsAt) / eventSize ≡ k = omega arith in
       rw (le-ltb (eventsAt + eventSize * k) eventsAt (omega arith), lt-ltb (eventsAt + eventSize * k) (itemsAt c) (omega arith), q)
 
-  item-at : (p : ℕ) → p < c .items → entryAt c (itemsAt c + itemSize * p) ≡ Item p
+  item-at : (p k : ℕ) → p < c .items → k < itemSize → entryAt c (itemsAt c + itemSize * p + k) ≡ Item p
   unfolding entryAt pick
-  item-at p l =
-      let q : (itemsAt c + itemSize * p - itemsAt c) / itemSize ≡ p = omega arith in
-      rw (le-ltb (itemsAt c + itemSize * p) eventsAt (omega arith), le-ltb (itemsAt c + itemSize * p) (itemsAt c) (omega arith), lt-ltb (itemsAt c + itemSize * p) (messagesAt c) (omega arith), q)
+  item-at p k l m =
+      let at = itemsAt c + itemSize * p + k in
+      let q : (at - itemsAt c) / itemSize ≡ p = omega arith in
+      rw (le-ltb at eventsAt (omega arith), le-ltb at (itemsAt c) (omega arith), lt-ltb at (messagesAt c) (omega arith), q)
 
   message-at : (n : ℕ) → n < c .messages → entryAt c (messagesAt c + messageSize * n) ≡ Message n
   unfolding entryAt pick
@@ -114,7 +118,7 @@ module _ (f : List ℕ) (x : Fault) (long : leb contentsSize (length f) ≡ true
   items-named e =
       let h = item-fault (countsOf f) (decode f .items) x e in
       let b : h .p < countsOf f .items = omega (arith, h .below, items-decoded f) in
-      rw (h .place, long, item-at (countsOf f) (h .p) b) (item (h .p) b (h .setting) (h .left) (h .actions) (h .stands) (h .wrong))
+      rw (h .place, long, item-at (countsOf f) (h .p) _ b (field-within (h .rule))) (item (h .p) b (h .setting) (h .left) (h .actions) (h .stands) (h .rule) (h .wrong))
 
   messages-named : messagesRight f (countsOf f) (messagesAt (countsOf f)) (countsOf f .messages) 0 ≡ refused x → Goal
   unfolding entryOf entryAt placed faultPlaced refusalRow faultRow pick
@@ -156,6 +160,6 @@ never-no-message f e = go (entry-named f NoMessage e) refl where
   go text-offset q = let z : _≡_ {A = ℕ} 0 1 = cc in omega arith
   go file-length q = let z : _≡_ {A = ℕ} 0 1 = cc in omega arith
   go (event k b w r) q = let z : _≡_ {A = ℕ} 0 1 = cc in omega arith
-  go (item p b h l n s w) q = let z : _≡_ {A = ℕ} 0 1 = cc in omega arith
+  go (item p b h l n s r w) q = let z : _≡_ {A = ℕ} 0 1 = cc in omega arith
   go (message n b m w) q = let z : _≡_ {A = ℕ} 0 1 = cc in omega arith
   go text-left q = let z : _≡_ {A = ℕ} 0 1 = cc in omega arith

@@ -12,15 +12,15 @@ use Rattle.base.specs.Only.{only}
 use Rattle.ascii.specs.Decimals.{digitsOf, decimal}
 use Rattle.contents.specs.Bytes.{u16At, u32At, part}
 use Rattle.contents.specs.Contents.{countsOf, offsetsOf, countsRight, offsetsRight}
-use Rattle.contents.specs.Replies.{faultRow}
-use Rattle.items.specs.Items.{itemAt, itemsFrom, wordsRight, partRight, inOrder, eventRight, nestingRight, numberRight, actionsRight, fieldsRight, standingRight, itemRight, withinOf, ownOf, next, inside, onward, walkOf, walked, walkFault, itemsRight}
+use Rattle.contents.specs.Replies.{ruleRow, faultRow}
+use Rattle.items.specs.Items.{itemAt, itemsFrom, synchronyRight, errorRight, partRight, inOrder, eventRight, nestingRight, numberRight, actionsRight, itemRight, withinOf, ownOf, next, inside, onward, onFrom, walkOf, walked, walkFault, itemsRight}
 use Rattle.messages.specs.Messages.{labelByte, readable, messageRight, messagesRight}
 use Rattle.score.specs.Events.{durationsAt, eventsRight}
 use Rattle.score.specs.Piece.{decode}
 use Rattle.score.specs.File.{bodiesRight, checked}
 use Rattle.session.specs.Replies.{refusalRow}
-use Rattle.wording.specs.Words.{faultWords, refusalWords, faultPlaced, placed}
-use Rattle.refusals.specs.Entries.{entryAt, entryOf, fieldWords, entryWords}
+use Rattle.wording.specs.Words.{ruleWords, faultWords, refusalWords, faultPlaced, placed}
+use Rattle.refusals.specs.Entries.{entryAt, entryOf, fieldWords, entryWords, ruleField, faultField, fieldOf, namedWords}
 use Rattle.refusals.specs.Line.{atByte, placeWords, whereWords, refusalLine}
 use Rattle.checking.specs.Tallies.{actionsIn, uses, partsIn}
 use Rattle.checking.specs.Checked.{listed, partsTold, countsTold, acceptedLine, lineBy, checkedLine}
@@ -44,10 +44,40 @@ small =
     ∷ []
 
 pub small-accepted : checkedLine (bytesOf "small") small ≡ bytesOf "small: accepted, 3 events, 3 items, 2 actions, 2 messages, parts 0\n"
-unfolding small checkedLine lineBy checked bodiesRight countsOf offsetsOf u16At u32At countsRight offsetsRight eventsRight durationsAt itemsRight walked walkOf onward walkFault itemRight fieldsRight standingRight wordsRight partRight eventRight inOrder nestingRight numberRight actionsRight withinOf ownOf next inside itemAt itemsFrom messagesRight messageRight readable labelByte byRange part decode firstFault need every between pick acceptedLine countsTold listed partsTold actionsIn uses partsIn only decimal digitsOf refusalLine whereWords placeWords atByte refusalRow faultRow refusalWords faultWords placed faultPlaced entryOf entryAt entryWords fieldWords
+unfolding small checkedLine lineBy checked bodiesRight countsOf offsetsOf u16At u32At countsRight offsetsRight eventsRight durationsAt itemsRight walked walkOf onward onFrom walkFault itemRight synchronyRight errorRight partRight eventRight inOrder nestingRight numberRight actionsRight withinOf ownOf next inside itemAt itemsFrom messagesRight messageRight readable labelByte byRange part decode firstFault need every between pick acceptedLine countsTold listed partsTold actionsIn uses partsIn only decimal digitsOf refusalLine whereWords placeWords atByte refusalRow faultRow ruleRow refusalWords faultWords ruleWords placed faultPlaced entryOf entryAt entryWords fieldWords namedWords fieldOf faultField ruleField
 small-accepted = refl
 
--- The same with another part at byte 71, in the item at page place 2: its group has part 0.
-pub small-bad-item : checkedLine (bytesOf "small") (set small 71 1) ≡ bytesOf "small: refused 7 at byte 68, item 2: an item against the rules; also the 1,025th action\n"
-unfolding small checkedLine lineBy checked bodiesRight countsOf offsetsOf u16At u32At countsRight offsetsRight eventsRight durationsAt itemsRight walked walkOf onward walkFault itemRight fieldsRight standingRight wordsRight partRight eventRight inOrder nestingRight numberRight actionsRight withinOf ownOf next inside itemAt itemsFrom messagesRight messageRight readable labelByte byRange part decode firstFault need every between pick acceptedLine countsTold listed partsTold actionsIn uses partsIn only decimal digitsOf refusalLine whereWords placeWords atByte refusalRow faultRow refusalWords faultWords placed faultPlaced entryOf entryAt entryWords fieldWords
-small-bad-item = refl
+-- The same with one byte of an item changed, for each rule but the last: the group, at byte 44, then its two actions, at 56 and 68.
+unfoldable pub changed : (at byte : ℕ) → List ℕ
+changed at byte = checkedLine (bytesOf "small") (set small at byte)
+
+pub small-bad-items : changed 44 2
+    ∷ changed 45 2
+    ∷ changed 46 4
+    ∷ changed 57 1
+    ∷ changed 58 3
+    ∷ changed 47 16
+    ∷ changed 71 1
+    ∷ changed 63 1
+    ∷ changed 52 0
+    ∷ changed 52 4
+    ∷ changed 76 1
+    ∷ changed 54 3
+    ∷ changed 78 2
+    ∷ []
+    ≡ bytesOf "small: refused 20 at byte 44, item 0, kind: an item's kind, not 0 or 1\n"
+    ∷ bytesOf "small: refused 21 at byte 45, item 0, synchrony: an item's words, out of range or not 0 on an action\n"
+    ∷ bytesOf "small: refused 21 at byte 46, item 0, error word: an item's words, out of range or not 0 on an action\n"
+    ∷ bytesOf "small: refused 21 at byte 57, item 1, synchrony: an item's words, out of range or not 0 on an action\n"
+    ∷ bytesOf "small: refused 21 at byte 58, item 1, error word: an item's words, out of range or not 0 on an action\n"
+    ∷ bytesOf "small: refused 22 at byte 47, item 0, part: an item's part, above 15 or not its group's\n"
+    ∷ bytesOf "small: refused 22 at byte 71, item 2, part: an item's part, above 15 or not its group's\n"
+    ∷ bytesOf "small: refused 23 at byte 60, item 1, delay: an item's delay, above 5,040,000\n"
+    ∷ bytesOf "small: refused 24 at byte 52, item 0, event: an item's event, out of range, out of order by event and part, or not 0 within a group\n"
+    ∷ bytesOf "small: refused 24 at byte 52, item 0, event: an item's event, out of range, out of order by event and part, or not 0 within a group\n"
+    ∷ bytesOf "small: refused 24 at byte 76, item 2, event: an item's event, out of range, out of order by event and part, or not 0 within a group\n"
+    ∷ bytesOf "small: refused 25 at byte 54, item 0, last: an item's nesting, at depth 9 or a group that ends past what holds it\n"
+    ∷ bytesOf "small: refused 26 at byte 78, item 2, last: an action's message number, not below the message count\n"
+    ∷ []
+unfolding small changed checkedLine lineBy checked bodiesRight countsOf offsetsOf u16At u32At countsRight offsetsRight eventsRight durationsAt itemsRight walked walkOf onward onFrom walkFault itemRight synchronyRight errorRight partRight eventRight inOrder nestingRight numberRight actionsRight withinOf ownOf next inside itemAt itemsFrom messagesRight messageRight readable labelByte byRange part decode firstFault need every between pick acceptedLine countsTold listed partsTold actionsIn uses partsIn only decimal digitsOf refusalLine whereWords placeWords atByte refusalRow faultRow ruleRow refusalWords faultWords ruleWords placed faultPlaced entryOf entryAt entryWords fieldWords namedWords fieldOf faultField ruleField
+small-bad-items = refl

@@ -8,18 +8,20 @@ use native.Mathlib.Omega.{arith}
 use lib.ListN.{length, getD, take, drop, length-take, length-drop}
 use lib.Seq.{getD-take, getD-drop, length-take-le}
 use Rattle.page.specs.declared.Item.{Item}
-use Rattle.base.specs.Tests.{pick, between}
+use Rattle.base.specs.Tests.{between}
 use Rattle.base.specs.Checks.{Check, fine, refused, need, firstFault}
 use Rattle.contents.specs.declared.Fault.{Fault}
 use Rattle.contents.specs.declared.Fault.the-variants.{BadEvent, BadItem, BadMessage, TextLeft}
+use Rattle.contents.specs.declared.ItemRule.{ItemRule}
 use Rattle.contents.specs.declared.Counts.{Counts}
 use Rattle.contents.specs.Limits.{eventSize, itemSize, messageSize, longest}
+use Rattle.contents.specs.Replies.{ruleRow}
 use Rattle.contents.specs.Bytes.{u16At}
 use Rattle.contents.specs.Contents.{itemsAt}
 use Rattle.items.specs.declared.walk.Walk.{Walk}
 use Rattle.items.specs.declared.walk.Walk.the-variants.{Actions, Stop}
 use Rattle.items.specs.declared.Setting.{Setting}
-use Rattle.items.specs.Items.{itemRight, withinOf, ownOf, next, inside, onward, walkOf, walked, outset, walkFault, itemsRight}
+use Rattle.items.specs.Items.{itemRight, withinOf, ownOf, next, inside, onward, onFrom, walkOf, walked, outset, walkFault, itemsRight}
 use Rattle.items.specs.Ranged.{blank}
 use Rattle.items.proofs.Walked.{right-item, within-left}
 use Rattle.messages.specs.Messages.{messageRight, messagesRight}
@@ -91,31 +93,36 @@ event-fault at (d ∷ ds) x e =
 -- before it. Those before it are right.
 pub data Standing (c : Counts) : (is : List Item) (h : Setting) (n p : ℕ) (h′ : Setting) (left n′ : ℕ) → Type 0 where
   here : {i : Item} {is : List Item} {h : Setting} {n : ℕ} → Standing c (i ∷ is) h n 0 h (length is) n
-  within : {i : Item} {is : List Item} {h h′ : Setting} {n p left n′ : ℕ} → itemRight i c h (length is) n ≡ true
+  within : {i : Item} {is : List Item} {h h′ : Setting} {n p left n′ : ℕ} → itemRight i c h (length is) n ≡ fine
       → Standing c (take (withinOf i) is) (inside i h) (n + ownOf i) p h′ left n′ → Standing c (i ∷ is) h n (suc p) h′ left n′
-  after : {i : Item} {is : List Item} {h h′ : Setting} {n p left n′ : ℕ} → itemRight i c h (length is) n ≡ true
+  after : {i : Item} {is : List Item} {h h′ : Setting} {n p left n′ : ℕ} → itemRight i c h (length is) n ≡ fine
       → (b at m : ℕ) → length (take (withinOf i) is) ≤ b → walkOf b c at (take (withinOf i) is) (inside i h) (n + ownOf i) ≡ Actions m
       → Standing c (drop (withinOf i) is) (next i h) m p h′ left n′ → Standing c (i ∷ is) h n (suc (withinOf i + p)) h′ left n′
 
--- The item at this page place is wrong where it stands.
+-- The item at this page place is wrong where it stands: this is the first rule that it breaks, and the place is its field's.
 pub record ItemFault (c : Counts) (at : ℕ) (is : List Item) (h : Setting) (n : ℕ) (x : Fault) : Type 0 where
   pub p : ℕ
   pub below : p < length is
-  pub place : x ≡ BadItem (at + itemSize * p)
+  pub rule : ItemRule
+  pub place : x ≡ BadItem rule (at + itemSize * p + ruleRow rule .place)
   pub setting : Setting
   pub left : ℕ
   pub actions : ℕ
   pub stands : Standing c is h n p setting left actions
-  pub wrong : itemRight (getD is p blank) c setting left actions ≡ false
+  pub wrong : itemRight (getD is p blank) c setting left actions ≡ refused rule
+
+-- the same field, its item's first byte told otherwise
+same-field : (x : Fault) (r : ItemRule) (a b : ℕ) → x ≡ BadItem r (a + ruleRow r .place) → a ≡ b → x ≡ BadItem r (b + ruleRow r .place)
+same-field x r a b e s = e ∙ ap (λ (k : ℕ). BadItem r (k + ruleRow r .place)) s
 
 module _ (c : Counts) (at : ℕ) (i : Item) (is : List Item) (h : Setting) (n : ℕ) (x : Fault) where
-  item-here : itemRight i c h (length is) n ≡ false → Stop (BadItem at) ≡ Stop x → ItemFault c at (i ∷ is) h n x
-  item-here wrong e =
-      let q : x ≡ BadItem at = cc in
+  item-here : (r : ItemRule) → itemRight i c h (length is) n ≡ refused r → Stop (BadItem r (at + ruleRow r .place)) ≡ Stop x → ItemFault c at (i ∷ is) h n x
+  item-here r wrong e =
+      let q : x ≡ BadItem r (at + ruleRow r .place) = cc in
       let s : at ≡ at + itemSize * 0 = omega arith in
-      record { p = 0; below = omega arith; place = q ∙ ap BadItem s; setting = h; left = length is; actions = n; stands = here; wrong = wrong }
+      record { p = 0; below = omega arith; rule = r; place = same-field x r _ _ q s; setting = h; left = length is; actions = n; stands = here; wrong = wrong }
 
-  module _ (right : itemRight i c h (length is) n ≡ true) where
+  module _ (right : itemRight i c h (length is) n ≡ fine) where
     item-within : withinOf i ≤ length is → ItemFault c (at + itemSize) (take (withinOf i) is) (inside i h) (n + ownOf i) x → ItemFault c at (i ∷ is) h n x
     item-within l f =
         let s : at + itemSize + itemSize * f .p ≡ at + itemSize * suc (f .p) = omega arith in
@@ -123,7 +130,8 @@ module _ (c : Counts) (at : ℕ) (i : Item) (is : List Item) (h : Setting) (n : 
         record {
           p = suc (f .p);
           below = omega arith;
-          place = f .place ∙ ap BadItem s;
+          rule = f .rule;
+          place = same-field x (f .rule) _ _ (f .place) s;
           setting = f .setting;
           left = f .left;
           actions = f .actions;
@@ -138,7 +146,8 @@ module _ (c : Counts) (at : ℕ) (i : Item) (is : List Item) (h : Setting) (n : 
         record {
           p = suc (withinOf i + f .p);
           below = omega (arith, f .below, length-drop (withinOf i) is);
-          place = f .place ∙ ap BadItem s;
+          rule = f .rule;
+          place = same-field x (f .rule) _ _ (f .place) s;
           setting = f .setting;
           left = f .left;
           actions = f .actions;
@@ -161,22 +170,21 @@ module _ (b : ℕ) (c : Counts) (at : ℕ) (i : Item) (is : List Item) (x : Faul
   dropped-fits : (k : ℕ) → length (drop k is) ≤ b
   dropped-fits k = omega (arith, length-drop k is)
 
-  item-step : (h : Setting) (n : ℕ) (t : Bool) → itemRight i c h (length is) n ≡ t
-      → pick t
+  item-step : (h : Setting) (n : ℕ) (v : Check ItemRule) → itemRight i c h (length is) n ≡ v
+      → onFrom v at
       (onward (walkOf b c (at + itemSize) (take (withinOf i) is) (inside i h) (n + ownOf i))
       (λ m. walkOf b c (at + itemSize + itemSize * withinOf i) (drop (withinOf i) is) (next i h) m))
-      (Stop (BadItem at))
       ≡ Stop x
       → ItemFault c at (i ∷ is) h n x
-  unfolding pick
-  item-step h n false wrong q = item-here c at i is h n x wrong q
-  item-step h n true right q =
+  unfolding onFrom
+  item-step h n (refused r) wrong q = item-here c at i is h n x r wrong q
+  item-step h n fine right q =
       onward-stopped _ _ x _ q
       (λ s. item-within c at i is h n x right (within-left (right-item i c h (length is) n right)) (found _ _ _ _ (taken-fits (withinOf i)) s))
       (λ m w s. item-after c at i is h n x right b _ m (taken-fits (withinOf i)) w (found _ _ _ _ (dropped-fits (withinOf i)) s))
 
 walk-fault : (b : ℕ) (c : Counts) (at : ℕ) (is : List Item) (h : Setting) (n : ℕ) (x : Fault) → length is ≤ b → walkOf b c at is h n ≡ Stop x → ItemFault c at is h n x
-unfolding walkOf pick
+unfolding walkOf
 walk-fault zero c at is h n x l e = let z : _≡_ {A = ℕ} 0 1 = cc in absurd (omega arith)
 walk-fault (suc b) c at [] h n x l e = let z : _≡_ {A = ℕ} 0 1 = cc in absurd (omega arith)
 walk-fault (suc b) c at (i ∷ is) h n x l e =

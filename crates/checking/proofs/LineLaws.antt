@@ -9,7 +9,7 @@ use Rattle.ascii.specs.Words.{newline}
 use Rattle.ascii.specs.Text.{bytesOf}
 use Rattle.ascii.specs.Laying.{Laid}
 use Rattle.ascii.proofs.LayLaws.{laid-join}
-use Rattle.base.specs.Checks.{fine, refused}
+use Rattle.base.specs.Checks.{fine, refused, isFine}
 use Rattle.contents.specs.declared.Fault.{Fault}
 use Rattle.contents.specs.declared.Verdict.{Verdict}
 use Rattle.contents.specs.declared.Verdict.the-variants.{Fine, Refused}
@@ -23,7 +23,7 @@ use Rattle.session.specs.declared.Refusal.the-variants.{File}
 use Rattle.refusals.specs.Line.{refusalLine}
 use Rattle.checking.specs.Counted.{counted}
 use Rattle.checking.specs.Tallies.{actionsIn, partsIn}
-use Rattle.checking.specs.Checked.{partsTold, countsTold, acceptedLine, isFine, lineBy, checkedLine, CheckTold}
+use Rattle.checking.specs.Checked.{partsTold, countsTold, acceptedLine, lineBy, checkedLine, CheckTold}
 
 -- ---- the counts
 

@@ -5,13 +5,14 @@ use mathlib.Core.Bool.{Bool, true, false}
 use mathlib.Core.List.{List}
 use lib.IntN.{ℤ, pos, negsuc}
 use Rattle.base.specs.Tests.{pick}
+use Rattle.base.specs.Checks.{isFine}
 use Rattle.ascii.specs.Laying.{Laid}
 use Rattle.score.specs.File.{checked}
 use Rattle.reasons.specs.Reasons.{unreadLine}
 use Rattle.checking.specs.declared.run.Came.{Came}
 use Rattle.checking.specs.declared.run.Came.the-variants.{Accepted, Refused, Unread}
 use Rattle.checking.specs.declared.account.Account.{Account}
-use Rattle.checking.specs.Checked.{isFine, checkedLine, checkRoom}
+use Rattle.checking.specs.Checked.{checkedLine, checkRoom}
 
 -- The error number of a read that did not fail.
 unfoldable pub wasRead : (error : ℤ) → Bool

@@ -16,7 +16,9 @@ use Rattle.contents.specs.declared.Verdict.{Verdict}
 use Rattle.contents.specs.declared.Verdict.the-variants.{Fine, Refused as Faulty}
 use Rattle.contents.specs.declared.Fault.{Fault}
 use Rattle.contents.specs.declared.Fault.the-variants.{FileShort, BadCount, BadOffset, BadLength, BadEvent, BadItem, BadMessage, TextLeft, NoMessage}
-use Rattle.contents.specs.Replies.{faultRow, verdictOf}
+use Rattle.contents.specs.declared.ItemRule.{ItemRule}
+use Rattle.contents.specs.declared.ItemRule.the-variants as rule
+use Rattle.contents.specs.Replies.{ruleRow, faultRow, verdictOf}
 use Rattle.score.specs.File.{checked, Accepted}
 use Rattle.contents.proofs.Verdicts.{verdict-fine, verdict-refused}
 use Rattle.rules.specs.Terms.{Terms}
@@ -38,6 +40,18 @@ use Rattle.playing.specs.Inner.{Carries}
 
 -- ---- number 0 is no refusal's
 
+rule-numbered : (r : ItemRule) → eqb (ruleRow r .number) 0 ≡ false
+unfolding ruleRow
+rule-numbered rule.Kind = refl
+rule-numbered rule.Synchrony = refl
+rule-numbered rule.ErrorWord = refl
+rule-numbered rule.Part = refl
+rule-numbered rule.Delay = refl
+rule-numbered rule.Event = refl
+rule-numbered rule.Nesting = refl
+rule-numbered rule.Message = refl
+rule-numbered rule.Actions = refl
+
 row-numbered : (x : Fault) → eqb (faultRow x .number) 0 ≡ false
 unfolding faultRow
 row-numbered FileShort = refl
@@ -45,7 +59,7 @@ row-numbered (BadCount at) = refl
 row-numbered (BadOffset at) = refl
 row-numbered BadLength = refl
 row-numbered (BadEvent at) = refl
-row-numbered (BadItem at) = refl
+row-numbered (BadItem r at) = rule-numbered r
 row-numbered (BadMessage at) = refl
 row-numbered TextLeft = refl
 row-numbered NoMessage = refl

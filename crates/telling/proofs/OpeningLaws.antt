@@ -15,7 +15,9 @@ use Rattle.ascii.specs.Decimals.{digitsOf, decimal}
 use Rattle.ascii.proofs.DecimalLaws.{decimal-digits}
 use Rattle.contents.specs.declared.Fault.{Fault}
 use Rattle.contents.specs.declared.Fault.the-variants.{FileShort, BadCount, BadOffset, BadLength, BadEvent, BadItem, BadMessage, TextLeft, NoMessage}
-use Rattle.contents.specs.Replies.{faultRow}
+use Rattle.contents.specs.declared.ItemRule.{ItemRule}
+use Rattle.contents.specs.declared.ItemRule.the-variants as rule
+use Rattle.contents.specs.Replies.{ruleRow, faultRow}
 use Rattle.session.specs.declared.Refusal.{Refusal}
 use Rattle.session.specs.declared.Refusal.the-variants.{MemoryShort, RoomShort, File, BadTempo, BadGrace, NoSession, NoEvent, NotAfter, BadMillis, ClockFull}
 use Rattle.session.specs.Replies.{refusalRow}
@@ -65,6 +67,18 @@ opening-told (Opened n) = refl
 opening-told (notOpened x) = rw (number-told x 0, refusal-numbered x)
 
 -- It tells of the grace exactly where the number is the grace's.
+rule-graceless : (r : ItemRule) (c : ℕ) → tellsGrace (openLine (ruleRow r .number) c) ≡ eqb (ruleRow r .number) 19
+unfolding tellsGrace begins pick wordLine wordsLine decimal digitsOf ruleRow
+rule-graceless rule.Kind c = refl
+rule-graceless rule.Synchrony c = refl
+rule-graceless rule.ErrorWord c = refl
+rule-graceless rule.Part c = refl
+rule-graceless rule.Delay c = refl
+rule-graceless rule.Event c = refl
+rule-graceless rule.Nesting c = refl
+rule-graceless rule.Message c = refl
+rule-graceless rule.Actions c = refl
+
 fault-graceless : (x : Fault) (c : ℕ) → tellsGrace (openLine (faultRow x .number) c) ≡ eqb (faultRow x .number) 19
 unfolding tellsGrace begins pick wordLine wordsLine decimal digitsOf faultRow
 fault-graceless FileShort c = refl
@@ -72,7 +86,7 @@ fault-graceless (BadCount at) c = refl
 fault-graceless (BadOffset at) c = refl
 fault-graceless BadLength c = refl
 fault-graceless (BadEvent at) c = refl
-fault-graceless (BadItem at) c = refl
+fault-graceless (BadItem r at) c = rule-graceless r c
 fault-graceless (BadMessage at) c = refl
 fault-graceless TextLeft c = refl
 fault-graceless NoMessage c = refl

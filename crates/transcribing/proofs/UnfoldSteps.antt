@@ -13,8 +13,11 @@ use Rattle.ascii.proofs.LayLaws.{laid-nothing}
 use Rattle.contents.specs.declared.Counts.{Counts}
 use Rattle.contents.specs.declared.Fault.{Fault}
 use Rattle.contents.specs.declared.Fault.the-variants.{BadEvent, BadItem, BadMessage, TextLeft}
+use Rattle.contents.specs.declared.ItemRule.{ItemRule}
 use Rattle.contents.specs.Limits.{mostItems, eventSize, itemSize}
+use Rattle.contents.specs.Replies.{ruleRow}
 use Rattle.contents.specs.Contents.{eventsAt, itemsAt, messagesAt}
+use Rattle.items.proofs.RuleLaws.{field-within}
 use Rattle.session.specs.declared.Refusal.{Refusal}
 use Rattle.session.specs.declared.Refusal.the-variants.{File}
 use Rattle.streams.specs.declared.ending.Ending.{Ending}
@@ -83,7 +86,7 @@ unfold-ending-case u v r e p = rw e p
 
 pub ruleset unfold-endings = (unfold-ending-case, needs)
 
--- ---- the entry told is the one whose first byte the check tells
+-- ---- the entry told is the one in which the check's place lies
 
 module _ (f : List ℕ) (c : Counts) (same : c .events ≡ eventsFolded f) where
   pub event-told : (k : ℕ) → k < c .events → entryAt (countsFolded f (BadEvent (eventsAt + eventSize * k))) (eventsAt + eventSize * k) ≡ Event (1 + k)
@@ -92,8 +95,10 @@ module _ (f : List ℕ) (c : Counts) (same : c .events ≡ eventsFolded f) where
       let q : (eventsAt + eventSize * k - eventsAt) / eventSize ≡ k = omega arith in
       rw (le-ltb (eventsAt + eventSize * k) eventsAt (omega arith), lt-ltb (eventsAt + eventSize * k) (eventsAt + eventSize * eventsFolded f) (omega arith), q)
 
-  pub item-told : (p : ℕ) → p < mostItems → entryAt (countsFolded f (BadItem (itemsAt c + itemSize * p))) (itemsAt c + itemSize * p) ≡ Item p
+  pub item-told : (p : ℕ) (r : ItemRule) → p < mostItems → entryAt (countsFolded f (BadItem r (itemsAt c + itemSize * p + ruleRow r .place))) (itemsAt c + itemSize * p + ruleRow r .place) ≡ Item p
   unfolding entryAt countsFolded itemsTold pick
-  item-told p l =
-      let q : (itemsAt c + itemSize * p - (eventsAt + eventSize * eventsFolded f)) / itemSize ≡ p = omega arith in
-      rw (le-ltb (itemsAt c + itemSize * p) eventsAt (omega arith), le-ltb (itemsAt c + itemSize * p) (eventsAt + eventSize * eventsFolded f) (omega arith), lt-ltb (itemsAt c + itemSize * p) (eventsAt + eventSize * eventsFolded f + itemSize * mostItems) (omega arith), q)
+  item-told p r l =
+      let at = itemsAt c + itemSize * p + ruleRow r .place in
+      let k = field-within r in
+      let q : (at - (eventsAt + eventSize * eventsFolded f)) / itemSize ≡ p = omega arith in
+      rw (le-ltb at eventsAt (omega arith), le-ltb at (eventsAt + eventSize * eventsFolded f) (omega arith), lt-ltb at (eventsAt + eventSize * eventsFolded f + itemSize * mostItems) (omega arith), q)

@@ -37,7 +37,7 @@ fn items_told(x: Fault) -> usize
         Fault::BadOffset(_) => 0,
         Fault::BadLength => 0,
         Fault::BadEvent(_) => 0,
-        Fault::BadItem(_) => MOST_ITEMS,
+        Fault::BadItem(_, _) => MOST_ITEMS,
         Fault::BadMessage(_) => 0,
         Fault::TextLeft => 0,
         Fault::NoMessage => 0,

@@ -1,5 +1,5 @@
 //! Extended scores with one thing wrong that the unfolded file's own check finds
-//! (6, 7 and 8), and some that are just not wrong.
+//! (6, 8, 21 to 24 and 26), and some that are just not wrong.
 
 use crate::additions::{at_the_end, curve};
 use crate::extended::{Extended, Figure, Point, ACTION, CURVE, GROUP, LOOP};

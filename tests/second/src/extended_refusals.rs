@@ -67,7 +67,7 @@ const ITEM_FAULTS: &[Change] = &[
     (
         "a group up to the end",
         |s| s.items[0].entry.last = 5,
-        (7, 64),
+        (24, 72),
     ),
     (
         "a group past its loop",
@@ -382,20 +382,20 @@ const BYTES: &[(usize, u8, (u64, usize))] = &[
     // The event's duration.
     (43, 1, (6, 32)),
     // The loop: words, part, delay, event.
-    (45, 2, (7, 36)),
-    (46, 4, (7, 36)),
-    (47, 16, (7, 36)),
-    (47, 4, (7, 60)),
-    (51, 1, (7, 36)),
-    (52, 0, (7, 36)),
-    (52, 2, (7, 36)),
+    (45, 2, (21, 37)),
+    (46, 4, (21, 38)),
+    (47, 16, (22, 39)),
+    (47, 4, (22, 63)),
+    (51, 1, (23, 40)),
+    (52, 0, (24, 44)),
+    (52, 2, (24, 44)),
     // Its action: words, part, delay, event, message.
-    (65, 1, (7, 60)),
-    (66, 1, (7, 60)),
-    (67, 2, (7, 60)),
-    (71, 1, (7, 60)),
-    (72, 1, (7, 60)),
-    (74, 1, (7, 60)),
+    (65, 1, (21, 61)),
+    (66, 1, (21, 62)),
+    (67, 2, (22, 63)),
+    (71, 1, (23, 64)),
+    (72, 1, (24, 68)),
+    (74, 1, (26, 70)),
     // The entry's start and length, the label.
     (84, 1, (8, 96)),
     (86, 0, (8, 96)),
@@ -415,8 +415,8 @@ fn places_in_the_unfolded_file(tally: &mut Tally) {
         tally.note(&name, right);
     }
     let mut score = one_beat(vec![looped(1, 3, 1), group(0, 0), group(2, 0)]);
-    // 1 + 3 x 2 items are before it.
-    note(tally, "an item behind a loop", &score, (7, 120));
+    // 1 + 3 x 2 items are before it, so it is at 120.
+    note(tally, "an item behind a loop", &score, (24, 128));
     score.items.pop();
     score.text.push(b'x');
     note(tally, "text left over", &score, (8, 24));

@@ -241,7 +241,7 @@ fn openings(tally: &mut Tally) {
     test("a bad tempo alone", &SMALL, b"O 1 50401\n", 630, tempo);
     let short = "open 3 parts 0\nend 0 sent 0\n";
     test("3 before both", &SMALL[..31], b"O 1 0\n", 631, short);
-    for (place, byte, number) in [(4, 0, 4), (0, 33, 5), (32, 0, 6), (40, 2, 7), (84, 127, 8)] {
+    for (place, byte, number) in [(4, 0, 4), (0, 33, 5), (32, 0, 6), (40, 2, 20), (84, 127, 8)] {
         let mut file = SMALL;
         file[place] = byte;
         let name = format!("{number} before both");
@@ -315,16 +315,16 @@ fn shown(tally: &mut Tally) {
 }
 
 fn replies(tally: &mut Tally, cases: &[Shown]) {
-    for number in [0, 3, 4, 5, 6, 7, 8, 9, 19] {
+    for number in [0, 3, 4, 5, 6, 8, 9, 19, 21, 22, 23, 24, 25, 26, 27] {
         let found = cases.iter().any(|case| case.reply == Some(number));
         tally.note(&format!("graced: an opening gets {number}"), found);
     }
-    for number in [3, 4, 5, 6, 7, 8, 9] {
+    for number in [3, 4, 5, 6, 8, 9, 21, 22, 23, 24, 25, 26] {
         let both = |case: &Shown| case.reply == Some(number) && case.case.grace() > 630;
         let found = cases.iter().any(both);
         tally.note(&format!("graced: {number} comes before 19"), found);
     }
-    let known = |case: &Shown| matches!(case.reply, None | Some(0 | 3..=9 | 19));
+    let known = |case: &Shown| matches!(case.reply, None | Some(0 | 3..=6 | 8..=9 | 19..=27));
     tally.note("graced: no other number", cases.iter().all(known));
     let granted = cases.iter().filter(|case| case.reply == Some(0)).count();
     tally.note("graced: seven of ten are opened", granted >= 700);

@@ -153,7 +153,7 @@ fn refused(file: &[u8], refusal: Refusal) -> String {
         }
         _ => format!(
             "refused {number} at byte {place}, {}: {}",
-            entry(file, place),
+            entry(file, number, place),
             when(number, place)
         ),
     }
@@ -165,14 +165,25 @@ fn when(number: u64, place: usize) -> &'static str {
         (4, _) => "a count outside its limits",
         (5, _) => "an offset not as above",
         (6, _) => "an event's duration",
+        // Given by wrong rules 56 and 60 alone.
         (7, _) => "an item against the rules; also the 1,025th action",
+        (20, _) => "an item's kind, not 0 or 1",
+        (21, _) => "an item's words, out of range or not 0 on an action",
+        (22, _) => "an item's part, above 15 or not its group's",
+        (23, _) => "an item's delay, above 5,040,000",
+        (24, _) => {
+            "an item's event, out of range, out of order by event and part, or not 0 within a group"
+        }
+        (25, _) => "an item's nesting, at depth 9 or a group that ends past what holds it",
+        (26, _) => "an action's message number, not below the message count",
+        (27, _) => "the 1,025th action",
         (8, 24) => "entries right, text not used up",
         _ => "a message entry or its label bytes",
     }
 }
 
 /// What stands at this byte. Past the contents only where they are right.
-fn entry(file: &[u8], place: usize) -> String {
+fn entry(file: &[u8], number: u64, place: usize) -> String {
     if place < CONTENTS {
         return String::from(IN_CONTENTS[place / 4]);
     }
@@ -183,7 +194,25 @@ fn entry(file: &[u8], place: usize) -> String {
     }
     if place < messages {
         let first = usize::from(mutant::is(mutant::ITEMS_FROM_ONE));
-        return format!("item {}", first + (place - items) / ITEM_BYTES);
+        let item = format!("item {}", first + (place - items) / ITEM_BYTES);
+        return match number {
+            20..=26 => format!("{item}, {}", field((place - items) % ITEM_BYTES)),
+            // The 1,025th action is no field's fault.
+            _ => item,
+        };
     }
     format!("message {}", (place - messages) / MESSAGE_BYTES)
+}
+
+/// The field of an item that this byte of it belongs to.
+fn field(byte: usize) -> &'static str {
+    match byte {
+        0 => "kind",
+        1 => "synchrony",
+        2 => "error word",
+        3 => "part",
+        4..=7 => "delay",
+        8..=9 => "event",
+        _ => "last",
+    }
 }

@@ -5,7 +5,7 @@ use std::cell::Cell;
 use std::sync::OnceLock;
 
 pub const VARIABLE: &str = "SECOND_MUTANT";
-pub const LAST: u32 = 51;
+pub const LAST: u32 = 60;
 
 pub const EXACTLY_E_J_IS_PAST: u32 = 1;
 pub const SLICE_FROM_THE_MISSED_EVENT: u32 = 2;
@@ -58,6 +58,15 @@ pub const GLOBAL_STARTS_BEFORE_E_J: u32 = 48;
 pub const GLOBAL_DATE_FROM_ITS_OWN_DELAY: u32 = 49;
 pub const GRACE_HOLDS_GLOBALS: u32 = 50;
 pub const TIGHT_GLOBAL_MOVED_AFTER_SLICING: u32 = 51;
+pub const EVENT_BEFORE_DELAY: u32 = 52;
+pub const PLACE_IS_THE_ITEM: u32 = 53;
+pub const WORDS_AT_SYNCHRONY: u32 = 54;
+pub const NUMBER_OF_ACTIONS_AT_LAST: u32 = 55;
+pub const OVERRUN_IS_SEVEN: u32 = 56;
+pub const PARTS_FALL_BY_PART: u32 = 57;
+pub const GROUPS_PART_IS_NESTING: u32 = 58;
+pub const RULE_BEFORE_ITEM: u32 = 59;
+pub const ITEMS_GET_SEVEN: u32 = 60;
 
 /// The number in the environment, 0 without one; an unreadable one is an error
 /// so that a slip is never taken for a run without a mutant.

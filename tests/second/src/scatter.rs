@@ -3,6 +3,7 @@
 //! table, places deep in the tables and figures of every kind.
 
 use crate::damage::many_actions;
+use crate::item_faults::{faulty, FIRST_NUMBER, STYLES};
 use crate::random::Random;
 use crate::score::{
     Entry, Tables, CONTENTS, LAST_PART, LONGEST_TIME, MOST_EVENTS, MOST_ITEMS, MOST_MESSAGES,
@@ -16,6 +17,9 @@ const TURNS: u64 = 30;
 /// So many of them are wrong.
 const WRONG: u64 = 18;
 
+/// The turns of 20 to 27, one each.
+const ITEM_TURNS: [u64; 8] = [14, 21, 24, 25, 26, 27, 28, 29];
+
 /// Longer than any score by far.
 const LONG: u64 = 70_000;
 
@@ -24,15 +28,24 @@ pub fn file_of_seed(seed: u64) -> Vec<u8> {
         return case::file_of_seed(seed);
     }
     let random = &mut Random::new(seed);
-    match seed / 2 % TURNS {
-        turn @ 0..WRONG => wrong_file(random, turn),
+    let (round, turn) = (seed / 2 / TURNS, seed / 2 % TURNS);
+    if let Some(which) = ITEM_TURNS.iter().position(|item| *item == turn) {
+        return faulty_item(random, round, which);
+    }
+    match turn {
+        0..WRONG => wrong_file(random, turn),
         18 => no_item(random),
         19 => no_action(random),
-        20..=21 => groups_alone(random),
+        20 => groups_alone(random),
         22 => several_parts(random),
-        23 => all_parts(random),
-        _ => scores::invent(random).tables.encode(),
+        _ => all_parts(random),
     }
+}
+
+/// This one of the numbers for an item; the styles take turns.
+fn faulty_item(random: &mut Random, round: u64, which: usize) -> Vec<u8> {
+    let style = STYLES[round as usize % STYLES.len()];
+    faulty(random, FIRST_NUMBER + which as u64, style)
 }
 
 /// One of the sorts that are wrong, in turns; a few are just not.

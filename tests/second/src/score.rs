@@ -1,6 +1,7 @@
 //! The score file: its tables, its bytes, its check, and the tree that a right
 //! file stands for.
 
+use crate::items::{self, AtFault};
 use crate::mutant;
 use std::rc::Rc;
 
@@ -40,6 +41,29 @@ pub struct Entry {
     pub delay: u32,
     pub event: u16,
     pub last: u16,
+}
+
+impl Entry {
+    /// The entry that these 12 bytes are.
+    fn of(bytes: &[u8]) -> Entry {
+        Entry {
+            kind: bytes[0],
+            synchrony: bytes[1],
+            error: bytes[2],
+            part: bytes[3],
+            delay: u32_at(bytes, 4) as u32,
+            event: u16_at(bytes, 8) as u16,
+            last: u16_at(bytes, 10) as u16,
+        }
+    }
+
+    pub fn is_action(&self) -> bool {
+        self.kind == 0
+    }
+
+    pub fn is_group(&self) -> bool {
+        self.kind == 1
+    }
 }
 
 // The two words of a group, as its entry has them.
@@ -145,6 +169,63 @@ pub struct Score {
     pub labels: Vec<Vec<u8>>,
 }
 
+/// The tree of right items, group by group.
+fn sequences(items: &[Entry]) -> Vec<Sequence> {
+    let mut sequences: Vec<Sequence> = Vec::new();
+    let mut index = 0;
+    while index < items.len() {
+        let event = usize::from(items[index].event);
+        let part = u64::from(items[index].part);
+        let (item, next) = tree(items, index);
+        match sequences.last_mut() {
+            Some(open) if (open.event, open.part) == (event, part) => open.items.push(item),
+            _ => sequences.push(Sequence {
+                event,
+                part,
+                items: vec![item],
+            }),
+        }
+        index = next;
+    }
+    sequences
+}
+
+/// The item at `index` with all that is within it, and the index after that.
+fn tree(items: &[Entry], index: usize) -> (Item, usize) {
+    let entry = items[index];
+    let delay = i128::from(entry.delay);
+    if entry.is_action() {
+        let what = What::Action(Action {
+            part: u64::from(entry.part),
+            message: usize::from(entry.last),
+            page: index,
+        });
+        return (Item { delay, what }, index + 1);
+    }
+    let end = index + 1 + usize::from(entry.last);
+    let mut body = Vec::new();
+    let mut next = index + 1;
+    while next < end {
+        let (item, after) = tree(items, next);
+        body.push(item);
+        next = after;
+    }
+    let what = What::Group(Rc::new(Group {
+        synchrony: match entry.synchrony {
+            LOOSE => Synchrony::Loose,
+            _ => Synchrony::Tight,
+        },
+        error: match entry.error {
+            LOCAL => ErrorWord::Local,
+            GLOBAL => ErrorWord::Global,
+            PARTIAL => ErrorWord::Partial,
+            _ => ErrorWord::Causal,
+        },
+        body,
+    }));
+    (Item { delay, what }, end)
+}
+
 // ----------------------------------------------------------------- check
 
 #[derive(Clone, Copy, PartialEq, Debug)]
@@ -173,6 +254,49 @@ pub fn u32_at(file: &[u8], place: usize) -> u64 {
 
 /// The file check; a right file gives its tree.
 pub fn read(file: &[u8]) -> Result<Score, Refusal> {
+    let contents = contents(file)?;
+    let durations = durations(file, &contents)?;
+    let items = contents.items(file);
+    let found = items::at_fault(&items, contents.counts[0], contents.counts[2]);
+    if let Some((number, place)) = items::reply(&found) {
+        return refuse(number, contents.offsets[1] + place);
+    }
+    let labels = read_labels(file, &contents)?;
+    Ok(Score {
+        durations,
+        sequences: sequences(&items),
+        labels,
+    })
+}
+
+/// The reply number and place of the file check.
+pub fn check(file: &[u8]) -> (u64, usize) {
+    match read(file) {
+        Ok(_) => (0, 0),
+        Err(refusal) => (refusal.number, refusal.place),
+    }
+}
+
+/// The items at fault; none where something before the items is.
+pub fn items_at_fault(file: &[u8]) -> (Vec<Entry>, Vec<AtFault>) {
+    let Ok(contents) = contents(file) else {
+        return (Vec::new(), Vec::new());
+    };
+    if durations(file, &contents).is_err() {
+        return (Vec::new(), Vec::new());
+    }
+    let items = contents.items(file);
+    let found = items::at_fault(&items, contents.counts[0], contents.counts[2]);
+    (items, found)
+}
+
+/// Right contents: how much each body has, and where it begins.
+struct Contents {
+    counts: [usize; 4],
+    offsets: [usize; 4],
+}
+
+fn contents(file: &[u8]) -> Result<Contents, Refusal> {
     if file.len() < CONTENTS {
         return refuse(3, 0);
     }
@@ -208,185 +332,33 @@ pub fn read(file: &[u8]) -> Result<Score, Refusal> {
     if file.len() != end {
         return refuse(5, 0);
     }
+    Ok(Contents { counts, offsets })
+}
 
+impl Contents {
+    fn items(&self, file: &[u8]) -> Vec<Entry> {
+        let table = &file[self.offsets[1]..self.offsets[2]];
+        table.chunks_exact(ITEM_BYTES).map(Entry::of).collect()
+    }
+}
+
+fn durations(file: &[u8], contents: &Contents) -> Result<Vec<i128>, Refusal> {
     let mut durations = Vec::new();
-    for number in 0..counts[0] {
-        let place = offsets[0] + EVENT_BYTES * number;
+    for number in 0..contents.counts[0] {
+        let place = contents.offsets[0] + EVENT_BYTES * number;
         let duration = u32_at(file, place);
         if duration < 1 || duration > u64::from(LONGEST_TIME) {
             return refuse(6, place);
         }
         durations.push(i128::from(duration));
     }
-
-    let mut items = ItemReader {
-        file,
-        offset: offsets[1],
-        events: counts[0] as u64,
-        messages: counts[2] as u64,
-        actions: 0,
-    };
-    let sequences = items.top(counts[1])?;
-
-    let labels = read_labels(file, offsets[2], counts[2], offsets[3], counts[3])?;
-
-    Ok(Score {
-        durations,
-        sequences,
-        labels,
-    })
-}
-
-/// The reply number and place of the file check.
-pub fn check(file: &[u8]) -> (u64, usize) {
-    match read(file) {
-        Ok(_) => (0, 0),
-        Err(refusal) => (refusal.number, refusal.place),
-    }
-}
-
-/// Reads the item table as a tree. The recursion meets the items in page order,
-/// so the first fault it meets is the one to reply.
-struct ItemReader<'f> {
-    file: &'f [u8],
-    offset: usize,
-    events: u64,
-    messages: u64,
-    actions: usize,
-}
-
-impl ItemReader<'_> {
-    fn top(&mut self, count: usize) -> Result<Vec<Sequence>, Refusal> {
-        let mut sequences: Vec<Sequence> = Vec::new();
-        let mut before = (0, 0);
-        let mut index = 0;
-        while index < count {
-            let place = self.offset + ITEM_BYTES * index;
-            let part = u64::from(self.file[place + 3]);
-            let event = u16_at(self.file, place + 8);
-            if event < 1 || event > self.events {
-                return refuse(7, place);
-            }
-            if (event, part) < before {
-                return refuse(7, place);
-            }
-            let (item, next) = self.item(index, count, 1, part)?;
-            match sequences.last_mut() {
-                Some(open) if (open.event as u64, open.part) == (event, part) => {
-                    open.items.push(item);
-                }
-                _ => sequences.push(Sequence {
-                    event: event as usize,
-                    part,
-                    items: vec![item],
-                }),
-            }
-            before = (event, part);
-            index = next;
-        }
-        Ok(sequences)
-    }
-
-    /// The items of a group's body, from `index` up to `end`.
-    fn body(
-        &mut self,
-        mut index: usize,
-        end: usize,
-        depth: usize,
-        part: u64,
-    ) -> Result<Vec<Item>, Refusal> {
-        let mut body = Vec::new();
-        while index < end {
-            let place = self.offset + ITEM_BYTES * index;
-            if u16_at(self.file, place + 8) != 0 {
-                return refuse(7, place);
-            }
-            if u64::from(self.file[place + 3]) != part {
-                return refuse(7, place);
-            }
-            let (item, next) = self.item(index, end, depth, part)?;
-            body.push(item);
-            index = next;
-        }
-        Ok(body)
-    }
-
-    /// The item at `index`, whose holder ends at `end`, and the index after it.
-    fn item(
-        &mut self,
-        index: usize,
-        end: usize,
-        depth: usize,
-        part: u64,
-    ) -> Result<(Item, usize), Refusal> {
-        let place = self.offset + ITEM_BYTES * index;
-        let kind = self.file[place];
-        let synchrony = self.file[place + 1];
-        let error = self.file[place + 2];
-        let delay = u32_at(self.file, place + 4);
-        let last = u16_at(self.file, place + 10);
-
-        let deepest = DEEPEST + usize::from(mutant::is(mutant::DEPTH_NINE_ACCEPTED));
-        if depth > deepest {
-            return refuse(7, place);
-        }
-        if kind > 1 || part > u64::from(LAST_PART) || delay > u64::from(LONGEST_TIME) {
-            return refuse(7, place);
-        }
-        let delay = i128::from(delay);
-
-        if kind == 0 {
-            self.actions += 1;
-            if self.actions > MOST_ACTIONS {
-                return refuse(7, place);
-            }
-            if synchrony != 0 || error != 0 || last >= self.messages {
-                return refuse(7, place);
-            }
-            let action = Action {
-                part,
-                message: last as usize,
-                page: index,
-            };
-            let what = What::Action(action);
-            return Ok((Item { delay, what }, index + 1));
-        }
-
-        let synchrony = match synchrony {
-            0 => Synchrony::Loose,
-            1 => Synchrony::Tight,
-            _ => return refuse(7, place),
-        };
-        let error = match error {
-            0 => ErrorWord::Local,
-            1 => ErrorWord::Global,
-            2 => ErrorWord::Partial,
-            3 => ErrorWord::Causal,
-            _ => return refuse(7, place),
-        };
-        let next = index + 1 + last as usize;
-        if next > end {
-            return refuse(7, place);
-        }
-        let body = self.body(index + 1, next, depth + 1, part)?;
-        let group = Group {
-            synchrony,
-            error,
-            body,
-        };
-        let what = What::Group(Rc::new(group));
-        Ok((Item { delay, what }, next))
-    }
+    Ok(durations)
 }
 
 /// Entry by entry, each with its own label bytes before the next.
-fn read_labels(
-    file: &[u8],
-    entries: usize,
-    count: usize,
-    text: usize,
-    text_count: usize,
-) -> Result<Vec<Vec<u8>>, Refusal> {
+fn read_labels(file: &[u8], contents: &Contents) -> Result<Vec<Vec<u8>>, Refusal> {
+    let [_, _, count, text_count] = contents.counts;
+    let [_, _, entries, text] = contents.offsets;
     let mut labels = Vec::new();
     let mut used = 0;
     for number in 0..count {

@@ -1,10 +1,11 @@
 //! The text form against values written by hand: where a text is at fault, what
 //! the file check says of the file it makes, the bytes that are read and the
-//! text that is written; and what the cases of `texts` must show.
+//! text that is written.
 
 use crate::random::Random;
-use crate::text::{self, Sort, FILE_ROOM};
-use crate::texts::{self, Case, Kind};
+use crate::text::{self, FILE_ROOM};
+use crate::text_shown::text_shown;
+use crate::texts;
 use crate::words::{Tally, SMALL, SMALLEST};
 use crate::writer::{self, TEXT_ROOM};
 use crate::{case, scores};
@@ -20,7 +21,7 @@ pub fn text_words(tally: &mut Tally) {
     written_texts(tally);
     text_rooms(tally);
     there_and_back(tally);
-    shown(tally);
+    text_shown(tally);
 }
 
 fn note(tally: &mut Tally, sort: &str, text: &[u8], right: bool) {
@@ -220,18 +221,18 @@ const CHECKED: &[(&[u8], u64, usize)] = &[
     (b"messages event 1 part 99", 0, 0),
     (b"messages event 1 part 255 part 0 part 0000000000", 0, 0),
     (b"messages event 1 part 15 0 group{}", 0, 0),
-    (b"messages event 1 part 16 0 group{}", 7, 36),
-    (b"messages event 1 part 99 0 group{}", 7, 36),
-    (b"messages event 1 part 255 0 group{}", 7, 36),
+    (b"messages event 1 part 16 0 group{}", 22, 39),
+    (b"messages event 1 part 99 0 group{}", 22, 39),
+    (b"messages event 1 part 255 0 group{}", 22, 39),
     (b"messages event 1 part 0 0 group{}part 0 0 group{}", 0, 0),
-    (b"messages event 1 part 1 0 group{}part 0 0 group{}", 7, 48),
+    (b"messages event 1 part 1 0 group{}part 0 0 group{}", 24, 56),
     (b"messages event 1 part 1 0 group{}part 0", 0, 0),
     (b"messages event 1 part 0 1000 group{}", 0, 0),
-    (b"messages event 1 part 0 5040001/5040 group{}", 7, 36),
-    (b"messages event 1 part 0 0 group{} 0 send 0", 7, 48),
+    (b"messages event 1 part 0 5040001/5040 group{}", 23, 40),
+    (b"messages event 1 part 0 0 group{} 0 send 0", 26, 58),
     (b"messages 0 \"a\" event 1 part 0 0 send 0", 0, 0),
-    (b"messages 0 \"a\" event 1 part 0 0 send 1", 7, 36),
-    (b"messages 0 \"a\" event 1 part 0 0 send 65535", 7, 36),
+    (b"messages 0 \"a\" event 1 part 0 0 send 1", 26, 46),
+    (b"messages 0 \"a\" event 1 part 0 0 send 65535", 26, 46),
     (b"messages 0 \"\" event 1", 8, 36),
     (b"messages 0 \"a\" 1 \"\" event 1", 8, 40),
     (b"messages 0 \"\t\" event 1", 8, 36),
@@ -242,7 +243,7 @@ const CHECKED: &[(&[u8], u64, usize)] = &[
     (b"messages 0 \"a\" 1 \"b\x7f\" event 1", 8, 40),
     (b"messages 0 \"\x80\xff\" event 1", 0, 0),
     // An item before a label, an event before an item, a count before all.
-    (b"messages 0 \"\" event 1 part 16 0 group{}", 7, 36),
+    (b"messages 0 \"\" event 1 part 16 0 group{}", 22, 39),
     (b"messages 0 \"\" event 0 part 16 0 group{}", 6, 32),
 ];
 
@@ -272,7 +273,7 @@ const REPEATED: &[Repeated] = &[
     ("messages event 1 part 0", " 0 group {}", 2_048, "", (0, 0, 0, 0)),
     ("messages event 1 part 0", " 0 group {}", 2_049, "", (4, 12, 0, 0)),
     ("messages 0 \"a\" event 1 part 0", " 0 send 0", 1_024, "", (0, 0, 0, 0)),
-    ("messages 0 \"a\" event 1 part 0", " 0 send 0", 1_025, "", (7, 12_324, 0, 0)),
+    ("messages 0 \"a\" event 1 part 0", " 0 send 0", 1_025, "", (27, 12_324, 0, 0)),
     ("messages 0 \"a\" event 1 part 0", " 0 send 0", 70_000, "", (4, 12, 0, 0)),
     ("messages event 1", " part 255", 100_000, "", (0, 0, 0, 0)),
     ("messages 0 \"", "x", 48, "\" event 1", (0, 0, 0, 0)),
@@ -298,11 +299,11 @@ fn repeated(tally: &mut Tally) {
         let right = figures(text.as_bytes()) == expected;
         note(tally, "repeated", name.as_bytes(), right);
     }
-    // The ninth group from 36 on, 12 bytes each, is at 132.
+    // The ninth group from 36 on, 12 bytes each, is at 132; its last is at 142.
     for (depth, expected) in [
         (8, (0, 0, 0, 0)),
-        (9, (7, 132, 0, 0)),
-        (2_048, (7, 132, 0, 0)),
+        (9, (25, 142, 0, 0)),
+        (2_048, (25, 142, 0, 0)),
         (2_049, (4, 12, 0, 0)),
         (1_000_000, (4, 12, 0, 0)),
     ] {
@@ -541,7 +542,7 @@ fn text_rooms(tally: &mut Tally) {
         ("more than enough", &SMALLEST, 27, (0, 0, 26)),
         ("a byte short", &SMALLEST, 25, (2, 0, 0)),
         ("none", &SMALLEST, 0, (2, 0, 0)),
-        ("none, and a bad item", &bad, 0, (7, 40, 0)),
+        ("none, and a bad item", &bad, 0, (20, 40, 0)),
         ("none, and no file", b"", 0, (3, 0, 0)),
         ("none, and a byte too few", &SMALL[..86], 0, (5, 0, 0)),
     ] {
@@ -584,102 +585,4 @@ fn there_and_back(tally: &mut Tally) {
         (reply.number, reply.place) == crate::score::check(&file)
     });
     tally.note("text: what is written passes the check", refused);
-}
-
-/// Every sort of fault, with what was being read.
-const FAULTS: &[(Sort, &[&str])] = &[
-    (
-        Sort::Token,
-        &[
-            "messages",
-            "label",
-            "event",
-            "part number",
-            "item or }",
-            "send or group",
-            "message number",
-            "{",
-            "beats",
-            "denominator",
-        ],
-    ),
-    (
-        Sort::End,
-        &[
-            "messages",
-            "label",
-            "part number",
-            "item or }",
-            "send or group",
-            "message number",
-            "{",
-            "beats",
-            "denominator",
-        ],
-    ),
-    (
-        Sort::TooManyDigits,
-        &[
-            "list number",
-            "beats",
-            "denominator",
-            "part number",
-            "message number",
-        ],
-    ),
-    (
-        Sort::TooBig,
-        &["beats", "denominator", "part number", "message number"],
-    ),
-    (Sort::OutOfTurn, &["list number"]),
-    (Sort::DenominatorZero, &["beats"]),
-    (Sort::NotWholeGrains, &["beats"]),
-    (Sort::TooManyGrains, &["beats"]),
-    (Sort::LabelNewline, &["label"]),
-    (Sort::LabelEscape, &["escape"]),
-    (Sort::LabelEnd, &["label", "escape"]),
-];
-
-/// 1,000 cases show every number, for texts and files, and every sort of fault.
-fn shown(tally: &mut Tally) {
-    let cases: Vec<Case> = (1..=1_000).map(Case::of_seed).collect();
-    let replies: Vec<_> = cases.iter().map(Case::expected).collect();
-    let mut test = |kind: Kind, number: u64, place: Option<usize>| {
-        let found = cases.iter().zip(&replies).any(|(case, reply)| {
-            let there = place.is_none_or(|place| reply.place == place);
-            case.kind == kind && reply.number == number && there
-        });
-        let what = match kind {
-            Kind::Read => "a text",
-            Kind::Write => "a file",
-        };
-        let place = place.map_or(String::new(), |place| format!(" at {place}"));
-        tally.note(&format!("texts: {what} gets {number}{place}"), found);
-    };
-    for number in [0, 2, 6, 7, 8, 16] {
-        test(Kind::Read, number, None);
-    }
-    for place in [4, 12, 20, 28] {
-        test(Kind::Read, 4, Some(place));
-    }
-    for number in [0, 2, 3, 4, 5, 6, 7, 8] {
-        test(Kind::Write, number, None);
-    }
-    let faults: Vec<_> = cases.iter().filter_map(fault).collect();
-    for (sort, wanted) in FAULTS {
-        for wanted in *wanted {
-            let found = faults.contains(&(*sort, wanted));
-            tally.note(&format!("texts: {sort:?}, {wanted}"), found);
-        }
-    }
-    let long = cases.iter().all(|case| case.input.len() < 600_000);
-    tally.note("texts: none of 600,000 bytes", long);
-}
-
-fn fault(case: &Case) -> Option<(Sort, &'static str)> {
-    if case.kind == Kind::Write || case.room < FILE_ROOM {
-        return None;
-    }
-    let fault = text::tables(&case.input).err()?;
-    Some((fault.sort, fault.wanted))
 }

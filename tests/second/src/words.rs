@@ -3,6 +3,8 @@
 use crate::extended_words::extended_words;
 use crate::global_words::global_words;
 use crate::graced_words::graced_words;
+use crate::item_shown::item_shown;
+use crate::item_words::item_words;
 use crate::lines::{line, reason, shown, verdict};
 use crate::odd::{self, What};
 use crate::play::play;
@@ -174,6 +176,8 @@ pub fn words() -> (u64, u64) {
     accepted_lines(&mut tally);
     refused_lines(&mut tally);
     names_and_reasons(&mut tally);
+    item_words(&mut tally);
+    item_shown(&mut tally);
     scattered(&mut tally);
     odd_entries(&mut tally);
     text_words(&mut tally);
@@ -275,11 +279,11 @@ fn file_check(tally: &mut Tally) {
         ("check: 259 events", 5, 1, (4, 4)),
         ("check: offset of the items", 8, 45, (5, 8)),
         ("check: event 2 of 0 grains", 36, 0, (6, 36)),
-        ("check: kind 2", 44, 2, (7, 44)),
-        ("check: a group past the table", 54, 3, (7, 44)),
-        ("check: an action with a word", 57, 1, (7, 56)),
-        ("check: an action within with an event", 76, 1, (7, 68)),
-        ("check: no such message", 66, 2, (7, 56)),
+        ("check: kind 2", 44, 2, (20, 44)),
+        ("check: a group past the table", 54, 3, (25, 54)),
+        ("check: an action with a word", 57, 1, (21, 57)),
+        ("check: an action within with an event", 76, 1, (24, 76)),
+        ("check: no such message", 66, 2, (26, 66)),
         ("check: message 2 of length 0", 86, 0, (8, 84)),
         ("check: label byte 127", 88, 127, (8, 80)),
         ("check: label byte 126", 88, 126, (0, 0)),
@@ -330,7 +334,7 @@ pub const SMALLEST: [u8; 36] = [
 
 /// 1 event at 32, items from 36 on: so many actions of part 15, then message 0,
 /// one byte long.
-fn only_actions(count: u16) -> Vec<u8> {
+pub fn only_actions(count: u16) -> Vec<u8> {
     let mut file = Vec::new();
     let messages = 36 + 12 * u32::from(count);
     for word in [32, 1, 36, count.into(), messages, 1, messages + 4, 1, 1] {
@@ -378,9 +382,9 @@ const REFUSED: &[(usize, u8, &str)] = &[
     (28, 4, "refused 5: offsets right, file length wrong"),
     (32, 0, "refused 6 at byte 32, event 1: an event's duration"),
     (39, 1, "refused 6 at byte 36, event 2: an event's duration"),
-    (40, 2, "refused 7 at byte 40, item 0: an item against the rules; also the 1,025th action"),
-    (62, 2, "refused 7 at byte 52, item 1: an item against the rules; also the 1,025th action"),
-    (67, 16, "refused 7 at byte 64, item 2: an item against the rules; also the 1,025th action"),
+    (40, 2, "refused 20 at byte 40, item 0, kind: an item's kind, not 0 or 1"),
+    (62, 2, "refused 26 at byte 62, item 1, last: an action's message number, not below the message count"),
+    (67, 16, "refused 22 at byte 67, item 2, part: an item's part, above 15 or not its group's"),
     (84, 127, "refused 8 at byte 76, message 0: a message entry or its label bytes"),
     (82, 0, "refused 8 at byte 80, message 1: a message entry or its label bytes"),
     (82, 1, "refused 8 at byte 24, offset of the text: entries right, text not used up"),
@@ -405,7 +409,7 @@ fn refused_lines(tally: &mut Tally) {
     test(
         "line: the 1,025th action",
         &only_actions(1_025),
-        "refused 7 at byte 12324, item 1024: an item against the rules; also the 1,025th action",
+        "refused 27 at byte 12324, item 1024: the 1,025th action",
     );
 }
 
@@ -476,6 +480,14 @@ fn scattered(tally: &mut Tally) {
         "refused 5 at byte 24,",
         "refused 5:",
         "refused 8 at byte 24,",
+        "refused 20 at byte ",
+        "refused 21 at byte ",
+        "refused 22 at byte ",
+        "refused 23 at byte ",
+        "refused 24 at byte ",
+        "refused 25 at byte ",
+        "refused 26 at byte ",
+        "refused 27 at byte ",
     ] {
         let found = said.iter().any(|line| line.starts_with(row));
         tally.note(&format!("scatter: {row}"), found);
@@ -498,7 +510,7 @@ fn deepest(said: &[String], entry: &str) -> usize {
     let before = format!(", {entry} ");
     let number = |line: &String| {
         let (_, rest) = line.split_once(&before)?;
-        rest.split(':').next()?.parse().ok()
+        rest.split([':', ',']).next()?.parse().ok()
     };
     said.iter().filter_map(number).max().unwrap_or(0)
 }
