@@ -38,7 +38,7 @@ durations-read f at ys (fit-duration {d = x} {ds = ds} p r) d =
 
 -- ---- the items
 
-module _ (f : List ℕ) (at : ℕ) (i : Item) (ys : List ℕ) (r : Fitting i)
+module _ (f : List ℕ) (at : ℕ) (i : Item) (ys : List ℕ)
     (d : drop at f ≡ (i .kind ∷ i .synchrony ∷ i .error ∷ i .part ∷ []) ++ (le32 (i .delay .0) ++ (le16 (i .event) ++ (le16 (i .last) ++ ys)))) where
   from-delay : drop (at + 4) f ≡ le32 (i .delay .0) ++ (le16 (i .event) ++ (le16 (i .last) ++ ys))
   from-delay = drop-on f at (i .kind ∷ i .synchrony ∷ i .error ∷ i .part ∷ []) _ d
@@ -46,15 +46,15 @@ module _ (f : List ℕ) (at : ℕ) (i : Item) (ys : List ℕ) (r : Fitting i)
   from-event : drop (at + 8) f ≡ le16 (i .event) ++ (le16 (i .last) ++ ys)
   from-event = let a : at + 4 + 4 ≡ at + 8 = omega arith in rw a at (u32-on f (at + 4) _ _ from-delay)
 
-  from-last : drop (at + 10) f ≡ le16 (i .last) ++ ys
+  pub from-last : drop (at + 10) f ≡ le16 (i .last) ++ ys
   from-last = let a : at + 8 + 2 ≡ at + 10 = omega arith in rw a at (u16-on f (at + 8) _ _ from-event)
 
-  from-next : drop (at + itemSize) f ≡ ys
+  pub from-next : drop (at + itemSize) f ≡ ys
   from-next = let a : at + 10 + 2 ≡ at + itemSize = omega arith in rw a at (u16-on f (at + 10) _ _ from-last)
 
-  item-read : itemAt f at ≡ i
+  item-read : Fitting i → itemAt f at ≡ i
   unfolding itemAt
-  item-read =
+  item-read r =
       let kind : byteAt f at ≡ i .kind = byte-first f at _ d in
       let synchrony : byteAt f (at + 1) ≡ i .synchrony = byte-read f at 1 _ d in
       let error : byteAt f (at + 2) ≡ i .error = byte-read f at 2 _ d in
@@ -69,7 +69,7 @@ unfolding itemBytes itemsFrom
 items-read f at ys no-item d = refl
 items-read f at ys (fit-item {i = i} {is = is} r rs) d =
     let d₁ = simp append-assoc at d in
-    rw (item-read f at i (itemBytes is ++ ys) r d₁, items-read f (at + itemSize) ys rs (from-next f at i (itemBytes is ++ ys) r d₁))
+    rw (item-read f at i (itemBytes is ++ ys) d₁ r, items-read f (at + itemSize) ys rs (from-next f at i (itemBytes is ++ ys) d₁))
 
 -- ---- the labels
 

@@ -67,12 +67,13 @@ pub counts-file : (s : Score) → Counted (countsOn s) → countsOf (fileOf s) �
 unfolding fileOf
 counts-file s k = counts-read (fileOf s) (countsOn s) _ k refl
 
-module _ (s : Score) (h : Fit s) where
+-- Where its bodies stand.
+module _ (s : Score) (k : Counted (countsOn s)) where
   at-events : drop eventsAt (fileOf s) ≡ durationBytes (s .durations) ++ (itemBytes (page (s .items)) ++ (entriesBytes (s .messages .entries) ++ s .messages .text))
   unfolding fileOf
-  at-events = contents-rest (fileOf s) (countsOn s) _ (h .counted) refl
+  at-events = contents-rest (fileOf s) (countsOn s) _ k refl
 
-  at-items : drop (itemsAt (countsOn s)) (fileOf s) ≡ itemBytes (page (s .items)) ++ (entriesBytes (s .messages .entries) ++ s .messages .text)
+  pub at-items : drop (itemsAt (countsOn s)) (fileOf s) ≡ itemBytes (page (s .items)) ++ (entriesBytes (s .messages .entries) ++ s .messages .text)
   unfolding countsOn
   at-items = rw (durations-size (s .durations)) at (drop-on (fileOf s) eventsAt (durationBytes (s .durations)) _ at-events)
 
@@ -85,17 +86,18 @@ module _ (s : Score) (h : Fit s) where
   unfolding countsOn
   at-text = rw (entries-size (s .messages .entries)) at (drop-on (fileOf s) (messagesAt (countsOn s)) (entriesBytes (s .messages .entries)) _ at-messages)
 
+module _ (s : Score) (h : Fit s) where
   durations-file : durationsAt (fileOf s) eventsAt ((countsOn s) .events) ≡ s .durations
   unfolding countsOn
-  durations-file = durations-read (fileOf s) eventsAt _ (h .durations) at-events
+  durations-file = durations-read (fileOf s) eventsAt _ (h .durations) (at-events s (h .counted))
 
   items-file : itemsFrom (fileOf s) (itemsAt (countsOn s)) ((countsOn s) .items) ≡ page (s .items)
   unfolding countsOn
-  items-file = rw (← page-length (s .items)) (items-read (fileOf s) (itemsAt (countsOn s)) _ (h .items) at-items)
+  items-file = rw (← page-length (s .items)) (items-read (fileOf s) (itemsAt (countsOn s)) _ (h .items) (at-items s (h .counted)))
 
   labels-file : labelsAt (fileOf s) (countsOn s) (messagesAt (countsOn s)) ((countsOn s) .messages) ≡ labelsIn (s .messages)
   unfolding countsOn labelsIn
-  labels-file = labels-read (fileOf s) (countsOn s) (s .messages .text) at-text (messagesAt (countsOn s)) _ (h .entries) at-messages
+  labels-file = labels-read (fileOf s) (countsOn s) (s .messages .text) (at-text s (h .counted)) (messagesAt (countsOn s)) _ (h .entries) (at-messages s (h .counted))
 
   -- The file of a score whose numbers fit says this score.
   pub decode-file : decode (fileOf s) ≡ pieceOf s

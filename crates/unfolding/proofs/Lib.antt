@@ -10,6 +10,7 @@ pub mod LimitLaws
 pub mod Fitting
 pub mod FileLaws
 pub mod OneOutcome
+pub mod NeverNested
 pub mod PlainFiles
 pub mod PlainNesting
 pub mod PlainScores

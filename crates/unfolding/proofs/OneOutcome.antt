@@ -130,7 +130,54 @@ module _ (s : Score) (k : Counted (countsOn s)) where
       alone fine = refl
       alone (refused x) = refl
 
+-- ---- what a check finds
+
+-- Nothing, or a fault of which P holds.
+pub data Finds {X : Type 0} (P : X → Type 0) : Check X → Type 0 where
+  no-fault : Finds P fine
+  some-fault : {x : X} → P x → Finds P (refused x)
+
+module _ {X : Type 0} (P : X → Type 0) where
+  pub first-of : (v : Check X) (l : List (Check X)) → Finds P v → Finds P (firstFault l) → Finds P (firstFault (v ∷ l))
+  unfolding firstFault
+  first-of fine l h k = k
+  first-of (refused x) l h k = h
+
+  pub need-of : (b : Bool) (x : X) → P x → Finds P (need b x)
+  unfolding need
+  need-of true x p = no-fault
+  need-of false x p = some-fault p
+
+  pub none-left : Finds P (firstFault [])
+  unfolding firstFault
+  none-left = no-fault
+
 -- ---- the faults of the bodies
+
+-- P holds of the number that is told of a fault.
+abbrev pub Told : (ℕ → Type 0) → Fault → Type 0
+Told P x = P (faultRow x .number)
+
+module _ (P : ℕ → Type 0) (six : P 6) (eight : P 8) where
+  events-of : (at : ℕ) (ds : List ℕ) → Finds (Told P) (eventsRight at ds)
+  unfolding eventsRight faultRow
+  events-of at [] = no-fault
+  events-of at (d ∷ ds) =
+      first-of (Told P) _ _ (need-of (Told P) _ (BadEvent at) six) (first-of (Told P) _ _ (events-of (at + eventSize) ds) (none-left (Told P)))
+
+  messages-of : (f : List ℕ) (c : Counts) (at count from : ℕ) → Finds (Told P) (messagesRight f c at count from)
+  unfolding messagesRight faultRow
+  messages-of f c at zero from = need-of (Told P) _ TextLeft eight
+  messages-of f c at (suc count) from =
+      first-of (Told P) _ _ (need-of (Told P) _ (BadMessage at) eight)
+      (first-of (Told P) _ _ (messages-of f c (at + messageSize) count (from + u16At f (at + 2))) (none-left (Told P)))
+
+  -- Beside the items' own faults the bodies have 6 and 8.
+  pub bodies-of : (f : List ℕ) (c : Counts) → Finds (Told P) (itemsRight c (decode f .items)) → Finds (Told P) (bodiesRight f c)
+  unfolding bodiesRight
+  bodies-of f c h =
+      first-of (Told P) _ _ (events-of eventsAt (decode f .durations))
+      (first-of (Told P) _ _ h (first-of (Told P) _ _ (messages-of f c (messagesAt c) (c .messages) 0) (none-left (Told P))))
 
 -- The numbers of a fault of an event, an item or a message: 6, 8, and 20 to 27.
 pub data OfBody : ℕ → Type 0 where
@@ -138,36 +185,8 @@ pub data OfBody : ℕ → Type 0 where
   of-message : OfBody 8
   of-item : {n : ℕ} → 20 ≤ n → n ≤ 27 → OfBody n
 
--- Nothing, or such a fault.
-pub data OfBodies : Check Fault → Type 0 where
-  no-fault : OfBodies fine
-  body-fault : {x : Fault} → OfBody (faultRow x .number) → OfBodies (refused x)
-
-first-of : (v : Check Fault) (l : List (Check Fault)) → OfBodies v → OfBodies (firstFault l) → OfBodies (firstFault (v ∷ l))
-unfolding firstFault
-first-of fine l h k = k
-first-of (refused x) l h k = h
-
-need-of : (b : Bool) (x : Fault) → OfBody (faultRow x .number) → OfBodies (need b x)
-unfolding need
-need-of true x p = no-fault
-need-of false x p = body-fault p
-
-none-left : OfBodies (firstFault [])
-unfolding firstFault
-none-left = no-fault
-
-events-of : (at : ℕ) (ds : List ℕ) → OfBodies (eventsRight at ds)
-unfolding eventsRight faultRow
-events-of at [] = no-fault
-events-of at (d ∷ ds) = first-of _ _ (need-of _ (BadEvent at) of-event) (first-of _ _ (events-of (at + eventSize) ds) none-left)
-
-messages-of : (f : List ℕ) (c : Counts) (at count from : ℕ) → OfBodies (messagesRight f c at count from)
-unfolding messagesRight faultRow
-messages-of f c at zero from = need-of _ TextLeft of-message
-messages-of f c at (suc count) from =
-    first-of _ _ (need-of _ (BadMessage at) of-message)
-    (first-of _ _ (messages-of f c (at + messageSize) count (from + u16At f (at + 2))) none-left)
+abbrev OfBodies : Check Fault → Type 0
+OfBodies v = Finds (Told OfBody) v
 
 walk-onward : (w : Walk) (more : ℕ → Walk) → OfBodies (walkFault w) → ((n : ℕ) → OfBodies (walkFault (more n))) → OfBodies (walkFault (onward w more))
 unfolding onward
@@ -177,7 +196,7 @@ walk-onward (Stop x) more h k = h
 walk-on : (v : Check ItemRule) (at : ℕ) (w : Walk) → OfBodies (walkFault w) → OfBodies (walkFault (onFrom v at w))
 unfolding onFrom walkFault faultRow
 walk-on fine at w h = h
-walk-on (refused r) at w h = let n = rule-numbered r in body-fault {x = BadItem r (at + ruleRow r .place)} (of-item (n .0) (n .1))
+walk-on (refused r) at w h = let n = rule-numbered r in some-fault {x = BadItem r (at + ruleRow r .place)} (of-item (n .0) (n .1))
 
 walk-of : (n : ℕ) (c : Counts) (at : ℕ) (is : List Item) (h : Setting) (actions : ℕ) → OfBodies (walkFault (walkOf n c at is h actions))
 unfolding walkOf walkFault
@@ -188,55 +207,60 @@ walk-of (suc n) c at (i ∷ is) h actions =
     (walk-onward _ _ (walk-of n c (at + itemSize) (take (withinOf i) is) (inside i h) (actions + ownOf i))
     (λ m. walk-of n c (at + itemSize + itemSize * withinOf i) (drop (withinOf i) is) (next i h) m))
 
-bodies-of : (f : List ℕ) (c : Counts) → OfBodies (bodiesRight f c)
-unfolding bodiesRight itemsRight walked
-bodies-of f c =
-    first-of _ _ (events-of eventsAt (decode f .durations))
-    (first-of _ _ (walk-of (length (decode f .items)) c (itemsAt c) (decode f .items) outset 0)
-    (first-of _ _ (messages-of f c (messagesAt c) (c .messages) 0) none-left))
+items-of : (c : Counts) (is : List Item) → OfBodies (itemsRight c is)
+unfolding itemsRight walked
+items-of c is = walk-of (length is) c (itemsAt c) is outset 0
 
 -- The check of an unfolded file within the limits finds no fault of its contents.
-pub no-contents-fault : (f : List ℕ) → withinLimits (scoreOf (extendedOf f)) ≡ true → OfBodies (checked (unfoldedFile f))
+pub no-contents-fault : (f : List ℕ) → withinLimits (scoreOf (extendedOf f)) ≡ true → Finds (Told OfBody) (checked (unfoldedFile f))
 unfolding unfoldedFile
 no-contents-fault f w =
     let s = scoreOf (extendedOf f) in
-    rw (bodies-decide s (limits-counted s w)) (bodies-of (fileOf s) (countsOf (fileOf s)))
+    let made = fileOf s in
+    rw (bodies-decide s (limits-counted s w)) (bodies-of OfBody of-event of-message made (countsOf made) (items-of (countsOf made) (decode made .items)))
 
 -- ---- the numbers that a call to unfold tells
 
-pub data Number : ℕ → Type 0 where
-  granted : Number 0
-  short-room : Number 2
-  of-file : {n : ℕ} → OfBody n → Number n
-  of-extended : Number 17
-  of-limit : Number 18
+-- Its own, and those of the unfolded file's faults.
+pub data Number (P : ℕ → Type 0) : ℕ → Type 0 where
+  granted : Number P 0
+  short-room : Number P 2
+  of-file : {n : ℕ} → P n → Number P n
+  of-extended : Number P 17
+  of-limit : Number P 18
 
-judged-number : (made : List ℕ) (v : Check Fault) → OfBodies v → Number (unfoldRow (judged made v) .number)
-unfolding judged unfoldRow
-judged-number made fine no-fault = granted
-judged-number made (refused x) (body-fault p) = of-file p
+module _ (P : ℕ → Type 0) (finds : (f : List ℕ) → withinLimits (scoreOf (extendedOf f)) ≡ true → Finds (Told P) (checked (unfoldedFile f))) where
+  judged-number : (made : List ℕ) (v : Check Fault) → Finds (Told P) v → Number P (unfoldRow (judged made v) .number)
+  unfolding judged unfoldRow
+  judged-number made fine no-fault = granted
+  judged-number made (refused x) (some-fault p) = of-file p
 
-limited-number : (f : List ℕ) (b : Bool) → withinLimits (scoreOf (extendedOf f)) ≡ b → Number (unfoldRow (pick b (judged (unfoldedFile f) (checked (unfoldedFile f))) OverLimit) .number)
-unfolding pick unfoldRow
-limited-number f true e = judged-number (unfoldedFile f) (checked (unfoldedFile f)) (no-contents-fault f e)
-limited-number f false e = of-limit
+  limited-number : (f : List ℕ) (b : Bool) → withinLimits (scoreOf (extendedOf f)) ≡ b
+      → Number P (unfoldRow (pick b (judged (unfoldedFile f) (checked (unfoldedFile f))) OverLimit) .number)
+  unfolding pick unfoldRow
+  limited-number f true e = judged-number (unfoldedFile f) (checked (unfoldedFile f)) (finds f e)
+  limited-number f false e = of-limit
 
-answered-number : (f : List ℕ) (v : Check ℕ) → Number (unfoldRow (answered f v) .number)
-unfolding answered unfoldRow
-answered-number f fine = limited-number f (withinLimits (scoreOf (extendedOf f))) refl
-answered-number f (refused place) = of-extended
+  answered-number : (f : List ℕ) (v : Check ℕ) → Number P (unfoldRow (answered f v) .number)
+  unfolding answered unfoldRow
+  answered-number f fine = limited-number f (withinLimits (scoreOf (extendedOf f))) refl
+  answered-number f (refused place) = of-extended
 
-room-number : (b : Bool) (u : Unfolding) → Number (unfoldRow u .number) → Number (unfoldRow (pick b u NoRoom) .number)
-unfolding pick unfoldRow
-room-number true u h = h
-room-number false u h = short-room
+  room-number : (b : Bool) (u : Unfolding) → Number P (unfoldRow u .number) → Number P (unfoldRow (pick b u NoRoom) .number)
+  unfolding pick unfoldRow
+  room-number true u h = h
+  room-number false u h = short-room
 
--- 0, 2, 6, 8, 17, 18 and 20 to 27 are all the numbers that it tells.
-pub only-numbers : (room : ℕ) (f : List ℕ) → Number (unfoldRow (unfoldAnswer room f) .number)
-unfolding unfoldAnswer
-only-numbers room f = room-number (leb longestScore room) (answered f (extendedRight f)) (answered-number f (extendedRight f))
+  -- What holds of every number of the unfolded file's check holds of all that it tells beside its own.
+  pub numbers-of : (room : ℕ) (f : List ℕ) → Number P (unfoldRow (unfoldAnswer room f) .number)
+  unfolding unfoldAnswer
+  numbers-of room f = room-number (leb longestScore room) (answered f (extendedRight f)) (answered-number f (extendedRight f))
 
-not-contents : {n : ℕ} → Number n → 3 ≤ n → n ≤ 5 → ⊥
+-- 0, 2, 6, 8, 17, 18 and 20 to 27 are all the numbers that it tells; NeverNested takes 20, 25 and 27 from these.
+pub only-numbers : (room : ℕ) (f : List ℕ) → Number OfBody (unfoldRow (unfoldAnswer room f) .number)
+only-numbers room f = numbers-of OfBody no-contents-fault room f
+
+not-contents : {n : ℕ} → Number OfBody n → 3 ≤ n → n ≤ 5 → ⊥
 not-contents granted p q = absurd (omega arith)
 not-contents short-room p q = absurd (omega arith)
 not-contents (of-file of-event) p q = absurd (omega arith)
