@@ -21,7 +21,7 @@ use Rattle.contents.specs.Replies.{ruleRow, faultRow}
 use Rattle.items.specs.declared.Setting.{Setting}
 use Rattle.items.specs.Items.{itemRight, outset, itemsRight}
 use Rattle.items.specs.Ranged.{blank}
-use Rattle.items.proofs.RuleLaws.{field-within}
+use Rattle.contents.proofs.RuleRows.{field-within}
 use Rattle.messages.specs.Messages.{messageRight, messagesRight}
 use Rattle.score.specs.Events.{eventsRight}
 use Rattle.score.specs.Piece.{decode}

@@ -1,7 +1,7 @@
 -- Laws of the item table and of its walk, for the proofs of several functions and for the layers above.
 pub mod Decoded
 pub mod Walked
-pub mod RuleLaws
+pub mod BrokenRules
 pub mod WalkLaws
 pub mod WalkSteps
 pub mod WalkEnds

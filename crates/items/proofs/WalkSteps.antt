@@ -26,7 +26,7 @@ use Rattle.items.specs.declared.walk.Step.{Step}
 use Rattle.items.specs.Items.{itemAt, itemsFrom, itemRight, withinOf, ownOf, next, inside, onward, walked}
 use Rattle.items.specs.Inner.{stepOf, refusal, brokenBy, faultAt, judged, StepFits, Room}
 use Rattle.items.proofs.Decoded.{items-length, items-none, items-more, items-take, items-drop}
-use Rattle.items.proofs.RuleLaws.{field-within}
+use Rattle.contents.proofs.RuleRows.{field-within}
 use Rattle.items.proofs.Walked.{right-item, within-left, own-room}
 use Rattle.items.proofs.WalkLaws.{within-action, within-group, own-action, own-group, walked-end, walked-right, walked-wrong, walked-small}
 

@@ -7,7 +7,7 @@ use Prim.Native.Nat.{ℕ, zero, suc, _+_, _%_, _≤_}
 use native.Mathlib.Omega.{arith}
 use lib.Dec.{leb, eqb}
 use lib.ListN.{length}
-use borrow.Author.Tests.{le-leb}
+use borrow.Author.Tests.{le-leb, ne-eqb}
 use borrow.Author.Needs.{needs}
 use Rattle.base.specs.Tests.{between, pick}
 use Rattle.base.specs.Checks.{Check, fine, refused, need, firstFault, renamed}
@@ -16,10 +16,9 @@ use Rattle.contents.specs.declared.Verdict.{Verdict}
 use Rattle.contents.specs.declared.Verdict.the-variants.{Fine, Refused as Faulty}
 use Rattle.contents.specs.declared.Fault.{Fault}
 use Rattle.contents.specs.declared.Fault.the-variants.{FileShort, BadCount, BadOffset, BadLength, BadEvent, BadItem, BadMessage, TextLeft, NoMessage}
-use Rattle.contents.specs.declared.ItemRule.{ItemRule}
-use Rattle.contents.specs.declared.ItemRule.the-variants as rule
 use Rattle.contents.specs.Replies.{ruleRow, faultRow, verdictOf}
 use Rattle.score.specs.File.{checked, Accepted}
+use Rattle.contents.proofs.RuleRows.{rule-numbered}
 use Rattle.contents.proofs.Verdicts.{verdict-fine, verdict-refused}
 use Rattle.rules.specs.Terms.{Terms}
 use Rattle.session.specs.declared.Refusal.{Refusal}
@@ -40,18 +39,6 @@ use Rattle.playing.specs.Inner.{Carries}
 
 -- ---- number 0 is no refusal's
 
-rule-numbered : (r : ItemRule) → eqb (ruleRow r .number) 0 ≡ false
-unfolding ruleRow
-rule-numbered rule.Kind = refl
-rule-numbered rule.Synchrony = refl
-rule-numbered rule.ErrorWord = refl
-rule-numbered rule.Part = refl
-rule-numbered rule.Delay = refl
-rule-numbered rule.Event = refl
-rule-numbered rule.Nesting = refl
-rule-numbered rule.Message = refl
-rule-numbered rule.Actions = refl
-
 row-numbered : (x : Fault) → eqb (faultRow x .number) 0 ≡ false
 unfolding faultRow
 row-numbered FileShort = refl
@@ -59,7 +46,7 @@ row-numbered (BadCount at) = refl
 row-numbered (BadOffset at) = refl
 row-numbered BadLength = refl
 row-numbered (BadEvent at) = refl
-row-numbered (BadItem r at) = rule-numbered r
+row-numbered (BadItem r at) = ne-eqb (ruleRow r .number) 0 (λ e. omega (arith, rule-numbered r))
 row-numbered (BadMessage at) = refl
 row-numbered TextLeft = refl
 row-numbered NoMessage = refl

@@ -36,6 +36,18 @@ use Rattle.telling.specs.Openings.{tellsRefusal, tellsGrace, refusedBy, 
 
 -- ---- an opening's line
 
+rule-told : (r : ItemRule) (c : ℕ) → tellsRefusal (openLine (ruleRow r .number) c) ≡ true
+unfolding tellsRefusal begins pick wordsLine decimal digitsOf ruleRow
+rule-told rule.Kind c = refl
+rule-told rule.Synchrony c = refl
+rule-told rule.ErrorWord c = refl
+rule-told rule.Part c = refl
+rule-told rule.Delay c = refl
+rule-told rule.Event c = refl
+rule-told rule.Nesting c = refl
+rule-told rule.Message c = refl
+rule-told rule.Actions c = refl
+
 fault-told : (x : Fault) (c : ℕ) → tellsRefusal (openLine (faultRow x .number) c) ≡ true
 unfolding tellsRefusal begins pick wordsLine decimal digitsOf faultRow
 fault-told FileShort c = refl
@@ -43,7 +55,7 @@ fault-told (BadCount at) c = refl
 fault-told (BadOffset at) c = refl
 fault-told BadLength c = refl
 fault-told (BadEvent at) c = refl
-fault-told (BadItem at) c = refl
+fault-told (BadItem r at) c = rule-told r c
 fault-told (BadMessage at) c = refl
 fault-told TextLeft c = refl
 fault-told NoMessage c = refl

@@ -17,7 +17,7 @@ use Rattle.contents.specs.declared.ItemRule.{ItemRule}
 use Rattle.contents.specs.Limits.{mostItems, eventSize, itemSize}
 use Rattle.contents.specs.Replies.{ruleRow}
 use Rattle.contents.specs.Contents.{eventsAt, itemsAt, messagesAt}
-use Rattle.items.proofs.RuleLaws.{field-within}
+use Rattle.contents.proofs.RuleRows.{field-within}
 use Rattle.session.specs.declared.Refusal.{Refusal}
 use Rattle.session.specs.declared.Refusal.the-variants.{File}
 use Rattle.streams.specs.declared.ending.Ending.{Ending}

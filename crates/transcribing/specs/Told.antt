@@ -42,7 +42,7 @@ writeLine name f (BadFile x) = refusalLine name f (File x)
 
 -- Room for any of these lines, without the name.
 abbrev pub lineRoom : ℕ
-lineRoom = 168
+lineRoom = 216
 
 -- "0 done, 1 refused"
 unfoldable pub endingOf : Transcript → Ending

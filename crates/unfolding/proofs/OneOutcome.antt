@@ -25,7 +25,7 @@ use Rattle.items.specs.declared.walk.Walk.{Walk}
 use Rattle.items.specs.declared.walk.Walk.the-variants.{Actions, Stop}
 use Rattle.items.specs.declared.Setting.{Setting}
 use Rattle.items.specs.Items.{withinOf, ownOf, next, inside, onward, onFrom, walkOf, walked, outset, walkFault, itemsRight}
-use Rattle.items.proofs.RuleLaws.{rule-numbered}
+use Rattle.contents.proofs.RuleRows.{rule-numbered}
 use Rattle.messages.specs.Messages.{messagesRight}
 use Rattle.score.specs.Events.{eventsRight}
 use Rattle.score.specs.Piece.{decode}

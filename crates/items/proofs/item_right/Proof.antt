@@ -3,7 +3,7 @@
 use mathlib.Core.Path.{_≡_}
 use borrow.Author.Needs.{needs}
 use Rattle.base.proofs.TestLaws.{calls}
-use Rattle.items.proofs.RuleLaws.{right-halves}
+use Rattle.items.proofs.BrokenRules.{right-halves}
 use Rattle.items.proofs.item_right.Statement.{statement}
 use Rattle.items.proofs.item_right.Tie as tie
 

@@ -2,7 +2,7 @@
 -- Assumes nothing.
 use borrow.Author.Needs.{needs}
 use Rattle.items.specs.Items.{itemRight}
-use Rattle.items.proofs.RuleLaws.{broken}
+use Rattle.items.proofs.BrokenRules.{broken}
 use Rattle.items.proofs.rule_broken.Statement.{statement}
 use Rattle.items.proofs.rule_broken.Tie as tie
 

@@ -3,8 +3,7 @@
 use mathlib.Core.Path.{_≡_, refl, _∙_}
 use mathlib.Core.Bool.{Bool, true, false}
 use mathlib.Core.List.{List, [], _∷_}
-use Prim.Native.Nat.{ℕ, _<_, _≤_}
-use native.Mathlib.Omega.{arith}
+use Prim.Native.Nat.{ℕ}
 use Rattle.page.specs.declared.Item.{Item}
 use Rattle.base.specs.Tests.{every}
 use Rattle.base.specs.Checks.{Check, fine, refused, need, firstFault, isFine}
@@ -13,8 +12,6 @@ use Rattle.base.proofs.CheckLaws.{fine-end, fine-more}
 use Rattle.contents.specs.declared.ItemRule.{ItemRule}
 use Rattle.contents.specs.declared.ItemRule.the-variants as rule
 use Rattle.contents.specs.declared.Counts.{Counts}
-use Rattle.contents.specs.Limits.{itemSize}
-use Rattle.contents.specs.Replies.{ruleRow}
 use Rattle.items.specs.declared.Setting.{Setting}
 use Rattle.items.specs.Items.{kindRight, synchronyRight, errorRight, partRight, delayRight, eventRight, nestingRight, numberRight, actionsRight, itemRight}
 use Rattle.items.specs.Inner.{fieldsRight, standingRight, brokenBy}
@@ -45,29 +42,3 @@ broken-last true = refl
 broken-last false = refl
 
 pub ruleset broken = (broken-here, broken-later, broken-last, told-true, told-false)
-
--- ---- "20 to 27", and a rule's field lies in the item
-
-pub rule-numbered : (r : ItemRule) → (20 ≤ ruleRow r .number) × (ruleRow r .number ≤ 27)
-unfolding ruleRow
-rule-numbered rule.Kind = (omega arith, omega arith)
-rule-numbered rule.Synchrony = (omega arith, omega arith)
-rule-numbered rule.ErrorWord = (omega arith, omega arith)
-rule-numbered rule.Part = (omega arith, omega arith)
-rule-numbered rule.Delay = (omega arith, omega arith)
-rule-numbered rule.Event = (omega arith, omega arith)
-rule-numbered rule.Nesting = (omega arith, omega arith)
-rule-numbered rule.Message = (omega arith, omega arith)
-rule-numbered rule.Actions = (omega arith, omega arith)
-
-pub field-within : (r : ItemRule) → ruleRow r .place < itemSize
-unfolding ruleRow
-field-within rule.Kind = omega arith
-field-within rule.Synchrony = omega arith
-field-within rule.ErrorWord = omega arith
-field-within rule.Part = omega arith
-field-within rule.Delay = omega arith
-field-within rule.Event = omega arith
-field-within rule.Nesting = omega arith
-field-within rule.Message = omega arith
-field-within rule.Actions = omega arith
