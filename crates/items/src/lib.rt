@@ -5,9 +5,8 @@ ghost use lib.ListN.{length};
 ghost use Rattle.base.specs.Checks.{isFine};
 ghost use Rattle.contents.specs.Limits.{itemSize};
 ghost use Rattle.items.specs.Items.{itemAt, kindRight, synchronyRight, errorRight, partRight, delayRight, inOrder, eventRight, nestingRight, numberRight, actionsRight, itemRight};
-ghost use Rattle.items.specs.Inner.{fieldsRight, standingRight, brokenBy};
+ghost use Rattle.items.specs.Inner.{fieldsRight, standingRight};
 use contents::Counts;
-use contents::ItemRule;
 use contents::bytes::byte;
 use contents::bytes::read16;
 use contents::bytes::read32;
@@ -18,6 +17,7 @@ use contents::limits::MOST_ACTIONS;
 use page::Item;
 use units::Grains;
 
+mod broken;
 mod walk;
 
 pub use walk::check_items;
@@ -184,35 +184,4 @@ pub fn item_right(i: Item, c: Counts, h: Setting, left: usize, actions: usize) -
         return false;
     }
     standing_right(i, c, h, left, actions)
-}
-
-// The first rule that a wrong item breaks.
-pub fn rule_broken(i: Item, c: Counts, h: Setting, left: usize, actions: usize) -> ItemRule
-    ensures { λ r. ⌜ r ≡ brokenBy (itemRight i c h left actions) ⌝ }
-{
-    if !kind_right(i) {
-        return ItemRule::Kind;
-    }
-    if !synchrony_right(i) {
-        return ItemRule::Synchrony;
-    }
-    if !error_right(i) {
-        return ItemRule::ErrorWord;
-    }
-    if !part_right(i, h) {
-        return ItemRule::Part;
-    }
-    if !delay_right(i) {
-        return ItemRule::Delay;
-    }
-    if !event_right(i, c, h) {
-        return ItemRule::Event;
-    }
-    if !nesting_right(i, h, left) {
-        return ItemRule::Nesting;
-    }
-    if !number_right(i, c) {
-        return ItemRule::Message;
-    }
-    ItemRule::Actions
 }

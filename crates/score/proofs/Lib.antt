@@ -11,3 +11,4 @@ pub mod Fielded
 pub mod EncodingReads
 pub mod EncodingPieces
 pub mod LongFile
+pub mod Where7Stood

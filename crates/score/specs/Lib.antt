@@ -6,3 +6,4 @@ pub mod LookUp
 pub mod Encode
 pub mod Readers
 pub mod Inner
+pub mod Before

@@ -3,8 +3,8 @@
 use borrow.Author.Needs.{needs}
 use Rattle.items.specs.Items.{itemRight}
 use Rattle.items.proofs.BrokenRules.{broken}
-use Rattle.items.proofs.rule_broken.Statement.{statement}
-use Rattle.items.proofs.rule_broken.Tie as tie
+use Rattle.items.proofs.broken.rule_broken.Statement.{statement}
+use Rattle.items.proofs.broken.rule_broken.Tie as tie
 
 returns : tie.Need-returns
 unfolding itemRight
