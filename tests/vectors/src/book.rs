@@ -1,5 +1,6 @@
 //! The vectors gathered so far, and the two files they are written to.
 
+use crate::rules::Rule;
 use std::collections::HashSet;
 
 struct Vector {
@@ -51,6 +52,12 @@ impl Book {
     /// A file that is refused, asked for message 0.
     pub fn refused(&mut self, name: impl Into<String>, file: Vec<u8>, number: u32, place: u32) {
         self.refused_asking(name, file, 0, number, place);
+    }
+
+    /// A file that is refused for a rule that its item at this byte breaks,
+    /// asked for message 0.
+    pub fn breaks(&mut self, name: impl Into<String>, file: Vec<u8>, rule: Rule, item: u32) {
+        self.refused(name, file, rule.number, item + rule.offset);
     }
 
     /// "Text look-up: the file check, 15": the look-up gives the number of the

@@ -82,7 +82,7 @@ fn first_count(book: &mut Book) {
     bad("count-items-and-text-offset", &[(24, 153), (12, 2_049)], 12);
     bad("count-items-and-all-offsets", &[(0, 0), (8, 0), (16, 0), (24, 0), (12, 2_049)], 12);
     bad("counts-two-and-events-offset", &[(0, 31), (20, 513), (28, 24_577)], 20);
-    // 4 before 5 for the length, and before 6, 7 and 8.
+    // 4 before 5 for the length, and before 6, an item's 20 to 27 and 8.
     let bad = patched(&file[..32], &[(20, 513)]);
     book.refused("count-messages-and-length", bad, 4, 20);
     let bad = base().with(|s| {
@@ -157,7 +157,7 @@ fn offsets(book: &mut Book) {
     bad("offsets-items-text", &[(8, 43), (24, 151)], 8);
     bad("offsets-messages-text", &[(16, 141), (24, 151)], 16);
     bad("offsets-all", &[(0, 0), (8, 0), (16, 0), (24, 0)], 0);
-    // 5 comes before 6, 7 and 8.
+    // 5 comes before 6, an item's 20 to 27 and 8.
     let bad = base().with(|s| {
         s.events[0] = 0;
         s.items[0].kind = 2;
@@ -217,7 +217,7 @@ fn length(book: &mut Book) {
     let file = least().bytes();
     book.refused("length-35-least", file[..35].to_vec(), 5, 0);
     book.refused("length-37-least", [&file[..], b"x"].concat(), 5, 0);
-    // The length comes before 6, 7 and 8.
+    // The length comes before 6, an item's 20 to 27 and 8.
     let bad = base().with(|s| {
         s.events[0] = 0;
         s.items[0].kind = 2;

@@ -1,11 +1,14 @@
-//! "7 an item against the rules; also the 1,025th action", place "its first
-//! byte". The 1,025th action is in `large`.
+//! An item against the rules, one rule at a time: the number and the field's
+//! place are those of `rules`, and the byte written beside a vector is the
+//! item's first. Two rules broken in one item are in `pairs`, the 1,025th action
+//! is in `large`.
 //!
 //! With one event item i starts at 36 + 12 i, with two at 40 + 12 i, with three
 //! at 44 + 12 i; the base file has three.
 
 use crate::base::{base, one_event, three_events, two_events, ITEMS};
 use crate::book::Book;
+use crate::rules::{Rule, DELAY, ERROR, EVENT, KIND, MESSAGE, NESTING, PART, SYNCHRONY};
 use crate::score::{action, group, Item, Score};
 use crate::sound::chain;
 
@@ -41,44 +44,44 @@ const ACTIONS: [(usize, &str); 4] =
 /// (0 local, 1 global, 2 partial, 3 causal), part (0 to 15), delay (u32, 0 to
 /// 5,040,000)".
 fn ranges(book: &mut Book) {
-    type Damage = (&'static str, fn(&mut Item));
+    type Damage = (&'static str, Rule, fn(&mut Item));
     let damages: [Damage; 12] = [
-        ("kind-2", |i| i.kind = 2),
-        ("kind-255", |i| i.kind = 255),
-        ("synchrony-2", |i| i.synchrony = 2),
-        ("synchrony-255", |i| i.synchrony = 255),
-        ("error-4", |i| i.error = 4),
-        ("error-255", |i| i.error = 255),
-        ("part-16", |i| i.part = 16),
-        ("part-255", |i| i.part = 255),
-        ("delay-5040001", |i| i.delay = 5_040_001),
-        ("delay-16777216", |i| i.delay = 16_777_216),
-        ("delay-2147483648", |i| i.delay = 2_147_483_648),
-        ("delay-4294967295", |i| i.delay = 4_294_967_295),
+        ("kind-2", KIND, |i| i.kind = 2),
+        ("kind-255", KIND, |i| i.kind = 255),
+        ("synchrony-2", SYNCHRONY, |i| i.synchrony = 2),
+        ("synchrony-255", SYNCHRONY, |i| i.synchrony = 255),
+        ("error-4", ERROR, |i| i.error = 4),
+        ("error-255", ERROR, |i| i.error = 255),
+        ("part-16", PART, |i| i.part = 16),
+        ("part-255", PART, |i| i.part = 255),
+        ("delay-5040001", DELAY, |i| i.delay = 5_040_001),
+        ("delay-16777216", DELAY, |i| i.delay = 16_777_216),
+        ("delay-2147483648", DELAY, |i| i.delay = 2_147_483_648),
+        ("delay-4294967295", DELAY, |i| i.delay = 4_294_967_295),
     ];
-    for (name, damage) in damages {
+    for (name, rule, damage) in damages {
         for (i, at) in NAMED {
             let bad = base().with(|s| damage(&mut s.items[i]));
-            book.refused(format!("item-{name}-{at}"), bad.bytes(), 7, ITEMS[i]);
+            book.breaks(format!("item-{name}-{at}"), bad.bytes(), rule, ITEMS[i]);
         }
     }
     // A group and its whole body at part 16: the group is the first.
     let items = [group(1, 16, 2), action(0, 16, 0), action(0, 16, 0)];
-    book.refused("item-part-16-whole-group", one_event(&items).bytes(), 7, 36);
+    book.breaks("item-part-16-whole-group", one_event(&items).bytes(), PART, 36);
 }
 
 /// "For an action both words are 0".
 fn action_words(book: &mut Book) {
     for (i, at) in ACTIONS {
         let bad = base().with(|s| s.items[i].synchrony = 1);
-        book.refused(format!("action-synchrony-1-{at}"), bad.bytes(), 7, ITEMS[i]);
+        book.breaks(format!("action-synchrony-1-{at}"), bad.bytes(), SYNCHRONY, ITEMS[i]);
         for error in [1, 2, 3] {
             let bad = base().with(|s| s.items[i].error = error);
-            book.refused(format!("action-error-{error}-{at}"), bad.bytes(), 7, ITEMS[i]);
+            book.breaks(format!("action-error-{error}-{at}"), bad.bytes(), ERROR, ITEMS[i]);
         }
     }
     let bad = base().with(|s| s.items[0] = action(1, 0, 0).words(1, 3));
-    book.refused("action-both-words", bad.bytes(), 7, 44);
+    book.breaks("action-both-words", bad.bytes(), SYNCHRONY, 44);
 }
 
 /// "last is its message number, counted from 0 and below the message count".
@@ -88,20 +91,20 @@ fn message_numbers(book: &mut Book) {
         // 256 is 0 cut to a byte; 65,535 is the highest there is.
         for number in [3, 256, 65_535] {
             let bad = base().with(|s| s.items[i].last = number);
-            book.refused(format!("message-number-{number}-{at}"), bad.bytes(), 7, ITEMS[i]);
+            book.breaks(format!("message-number-{number}-{at}"), bad.bytes(), MESSAGE, ITEMS[i]);
         }
     }
     // No messages: not even 0 is below the count.
     let bad = Score::new(&[5_040], &[action(1, 0, 0)], &[]);
-    book.refused("message-number-0-of-0", bad.bytes(), 7, 36);
+    book.breaks("message-number-0-of-0", bad.bytes(), MESSAGE, 36);
     let bad = Score::new(&[5_040], &[group(1, 0, 1), action(0, 0, 0)], &[]);
-    book.refused("message-number-0-of-0-inner", bad.bytes(), 7, 36 + 12);
+    book.breaks("message-number-0-of-0-inner", bad.bytes(), MESSAGE, 36 + 12);
     // One message: 0 is the only one.
     let bad = one_event(&[action(1, 0, 0), action(1, 0, 1)]);
-    book.refused("message-number-1-of-1", bad.bytes(), 7, 36 + 12);
+    book.breaks("message-number-1-of-1", bad.bytes(), MESSAGE, 36 + 12);
     // The text may be long; it is the message count that bounds the number.
     let bad = Score::new(&[5_040], &[action(1, 0, 1)], &[b"abcdef"]);
-    book.refused("message-number-1-in-text", bad.bytes(), 7, 36);
+    book.breaks("message-number-1-in-text", bad.bytes(), MESSAGE, 36);
 }
 
 /// "A top item names its event": not 0, and not above the last.
@@ -112,34 +115,35 @@ fn top_events(book: &mut Book) {
         // 259 is 3 cut to a byte.
         for event in [0, 4, 259, 65_535] {
             let bad = base().with(|s| s.items[i].event = event);
-            book.refused(format!("top-event-{event}-{at}"), bad.bytes(), 7, ITEMS[i]);
+            book.breaks(format!("top-event-{event}-{at}"), bad.bytes(), EVENT, ITEMS[i]);
         }
     }
     // The only item; one event.
-    book.refused("top-event-0-only", one_event(&[action(0, 0, 0)]).bytes(), 7, 36);
-    book.refused("top-event-0-only-group", one_event(&[group(0, 0, 0)]).bytes(), 7, 36);
-    book.refused("top-event-2-of-1", one_event(&[action(2, 0, 0)]).bytes(), 7, 36);
-    book.refused("top-event-257-of-1", one_event(&[action(257, 0, 0)]).bytes(), 7, 36);
+    book.breaks("top-event-0-only", one_event(&[action(0, 0, 0)]).bytes(), EVENT, 36);
+    book.breaks("top-event-0-only-group", one_event(&[group(0, 0, 0)]).bytes(), EVENT, 36);
+    book.breaks("top-event-2-of-1", one_event(&[action(2, 0, 0)]).bytes(), EVENT, 36);
+    book.breaks("top-event-257-of-1", one_event(&[action(257, 0, 0)]).bytes(), EVENT, 36);
     // 256 events; the items begin at 32 + 4 x 256. The sound twin is
     // `events-256`.
     let bad = Score::new(&[1; 256], &[action(257, 0, 0)], &[b"x"]);
-    book.refused("top-event-257-of-256", bad.bytes(), 7, 1_056);
+    book.breaks("top-event-257-of-256", bad.bytes(), EVENT, 1_056);
     // Event 0 after a group's body: outside the group it is a top item.
     let a = || action(0, 0, 0);
     let bad = one_event(&[group(1, 0, 1), a(), a()]);
-    book.refused("top-event-0-after-body", bad.bytes(), 7, 36 + 24);
+    book.breaks("top-event-0-after-body", bad.bytes(), EVENT, 36 + 24);
     let bad = one_event(&[group(1, 0, 0), a()]);
-    book.refused("top-event-0-after-empty-group", bad.bytes(), 7, 36 + 12);
+    book.breaks("top-event-0-after-empty-group", bad.bytes(), EVENT, 36 + 12);
     let bad = one_event(&[group(1, 0, 2), group(0, 0, 1), a(), a()]);
-    book.refused("top-event-0-after-two-groups", bad.bytes(), 7, 36 + 36);
+    book.breaks("top-event-0-after-two-groups", bad.bytes(), EVENT, 36 + 36);
 }
 
 /// "Top items stand by event and, within an event, by part": the item that
-/// falls behind the one before is against the rules.
+/// falls behind the one before is against the rules, and a part that falls is
+/// the rule "event (range, 0 inside groups, order by event and part)".
 fn order(book: &mut Book) {
     let t = |event, part| action(event, part, 0);
-    let mut bad = |name: &str, items: &[Item], place| {
-        book.refused(name, two_events(items).bytes(), 7, place);
+    let mut bad = |name: &str, items: &[Item], item| {
+        book.breaks(name, two_events(items).bytes(), EVENT, item);
     };
     bad("order-event-falls", &[t(2, 0), t(1, 0)], 40 + 12);
     bad("order-part-falls", &[t(1, 1), t(1, 0)], 40 + 12);
@@ -155,12 +159,12 @@ fn order(book: &mut Book) {
     bad("order-group-part-falls", &[t(2, 1), group(2, 0, 0)], 40 + 12);
     // Its first action raised: the base file's next item falls.
     let score = base().with(|s| s.items[0].event = 3);
-    book.refused("order-first-raised", score.bytes(), 7, 56);
+    book.breaks("order-first-raised", score.bytes(), EVENT, 56);
     let score = base().with(|s| s.items[0].part = 2);
-    book.refused("order-first-part-raised", score.bytes(), 7, 56);
+    book.breaks("order-first-part-raised", score.bytes(), EVENT, 56);
     // 256 then 255, at 32 + 4 x 256 + 12.
     let score = Score::new(&[1; 256], &[t(256, 0), t(255, 0)], &[b"x"]);
-    book.refused("order-event-256-255", score.bytes(), 7, 1_068);
+    book.breaks("order-event-256-255", score.bytes(), EVENT, 1_068);
 }
 
 /// The same, where the item before in the table lies in a group and has event
@@ -169,8 +173,8 @@ fn order(book: &mut Book) {
 fn order_after_group(book: &mut Book) {
     let t = |event, part| action(event, part, 0);
     let i = |part| action(0, part, 0);
-    let mut bad = |name: &str, items: &[Item], place| {
-        book.refused(name, two_events(items).bytes(), 7, place);
+    let mut bad = |name: &str, items: &[Item], item| {
+        book.breaks(name, two_events(items).bytes(), EVENT, item);
     };
     bad("order-event-falls-after-group", &[group(2, 0, 1), i(0), t(1, 0)], 40 + 24);
     bad("order-part-falls-after-group", &[group(1, 3, 1), i(3), t(1, 2)], 40 + 24);
@@ -201,15 +205,15 @@ fn order_after_group(book: &mut Book) {
     );
     // Only the group stands out of order, not the actions to either side.
     let items = [t(1, 0), group(3, 0, 1), i(0), t(2, 0)];
-    book.refused("order-event-falls-past-actions", three_events(&items).bytes(), 7, 44 + 36);
+    book.breaks("order-event-falls-past-actions", three_events(&items).bytes(), EVENT, 44 + 36);
     let items = [t(2, 1), group(2, 9, 1), i(9), t(2, 5)];
-    book.refused("order-part-falls-past-actions", three_events(&items).bytes(), 7, 44 + 36);
+    book.breaks("order-part-falls-past-actions", three_events(&items).bytes(), EVENT, 44 + 36);
     // Only the action stands out of order, not the groups to either side.
     let items = [group(1, 0, 1), i(0), t(3, 0), group(2, 0, 1), i(0)];
-    book.refused("order-event-falls-past-groups", three_events(&items).bytes(), 7, 44 + 36);
+    book.breaks("order-event-falls-past-groups", three_events(&items).bytes(), EVENT, 44 + 36);
     // The base file's first group raised to event 3: item 5 stands at 2.
     let score = base().with(|s| s.items[1].event = 3);
-    book.refused("order-base-group-raised", score.bytes(), 7, 104);
+    book.breaks("order-base-group-raised", score.bytes(), EVENT, 104);
 }
 
 /// "An item within a group has event 0 and its group's part."
@@ -219,20 +223,20 @@ fn inner_event_and_part(book: &mut Book) {
         // 1 is the group's own event; 256 is 0 cut to a byte.
         for event in [1, 2, 4, 256, 65_535] {
             let bad = base().with(|s| s.items[i].event = event);
-            book.refused(format!("inner-event-{event}-{at}"), bad.bytes(), 7, ITEMS[i]);
+            book.breaks(format!("inner-event-{event}-{at}"), bad.bytes(), EVENT, ITEMS[i]);
         }
         // The group's part is 1.
         for part in [0, 2, 15] {
             let bad = base().with(|s| s.items[i].part = part);
-            book.refused(format!("inner-part-{part}-{at}"), bad.bytes(), 7, ITEMS[i]);
+            book.breaks(format!("inner-part-{part}-{at}"), bad.bytes(), PART, ITEMS[i]);
         }
     }
     // The inner group and its body agree with each other, not with the holder.
     let bad = base().with(|s| (s.items[3].part, s.items[4].part) = (2, 2));
-    book.refused("inner-part-2-group-and-body", bad.bytes(), 7, 80);
+    book.breaks("inner-part-2-group-and-body", bad.bytes(), PART, 80);
     // The top group moved to part 0: its first item is the first to differ.
     let bad = base().with(|s| s.items[1].part = 0);
-    book.refused("inner-part-holder-moved", bad.bytes(), 7, 68);
+    book.breaks("inner-part-holder-moved", bad.bytes(), PART, 68);
     // First, middle and last of a body, an inner group before the last.
     let body = [
         group(1, 6, 5),
@@ -242,20 +246,20 @@ fn inner_event_and_part(book: &mut Book) {
         action(0, 6, 0),
         action(0, 6, 0),
     ];
-    for (i, place, at) in
+    for (i, item, at) in
         [(1, 36 + 12, "first"), (3, 36 + 36, "middle"), (4, 36 + 48, "end"), (5, 36 + 60, "last")]
     {
         let bad = one_event(&body).with(|s| s.items[i].event = 1);
-        book.refused(format!("inner-event-{at}-of-body"), bad.bytes(), 7, place);
+        book.breaks(format!("inner-event-{at}-of-body"), bad.bytes(), EVENT, item);
         let bad = one_event(&body).with(|s| s.items[i].part = 7);
-        book.refused(format!("inner-part-{at}-of-body"), bad.bytes(), 7, place);
+        book.breaks(format!("inner-part-{at}-of-body"), bad.bytes(), PART, item);
     }
     book.sound("inner-body-right", one_event(&body).bytes(), 0, b"x");
     // An empty group within a group.
     let bad = one_event(&[group(1, 0, 1), group(0, 1, 0)]);
-    book.refused("inner-part-empty-group", bad.bytes(), 7, 36 + 12);
+    book.breaks("inner-part-empty-group", bad.bytes(), PART, 36 + 12);
     let bad = one_event(&[group(1, 0, 1), group(1, 0, 0)]);
-    book.refused("inner-event-empty-group", bad.bytes(), 7, 36 + 12);
+    book.breaks("inner-event-empty-group", bad.bytes(), EVENT, 36 + 12);
 }
 
 /// "A group ends within the group that holds it, a top group within the
@@ -265,8 +269,8 @@ fn overruns(book: &mut Book) {
     let a = || action(0, 0, 0);
     let g = |last| group(0, 0, last);
     let t = || action(1, 0, 0);
-    let mut bad = |name: &str, items: &[Item], place| {
-        book.refused(name, one_event(items).bytes(), 7, place);
+    let mut bad = |name: &str, items: &[Item], item| {
+        book.breaks(name, one_event(items).bytes(), NESTING, item);
     };
     // The table, by one: alone, with a body, after other items.
     bad("overrun-table-alone", &[group(1, 0, 1)], 36);
@@ -293,39 +297,46 @@ fn overruns(book: &mut Book) {
     // The base file's last item made a group: sound when empty.
     let last = |last| base().with(|s| s.items[7] = group(3, 15, last)).bytes();
     book.sound("base-last-group-0", last(0), 0, b"abc");
-    book.refused("overrun-base-last-group", last(1), 7, 128);
+    book.breaks("overrun-base-last-group", last(1), NESTING, 128);
     // Its inner group over one item more.
     let bad = base().with(|s| s.items[3].last = 2);
-    book.refused("overrun-base-inner-group", bad.bytes(), 7, 80);
+    book.breaks("overrun-base-inner-group", bad.bytes(), NESTING, 80);
     // Its last item, an action of message 2, made a group of that last.
     let bad = base().with(|s| s.items[7].kind = 1);
-    book.refused("overrun-action-made-group", bad.bytes(), 7, 128);
+    book.breaks("overrun-action-made-group", bad.bytes(), NESTING, 128);
 }
 
-/// A last that is wrong but runs over nothing: the items tell.
+/// A last that is wrong but runs over nothing: the items tell. Most of them
+/// break more than one rule where they then stand.
 fn bodies(book: &mut Book) {
-    // The base file's empty group takes in the top item after it, which names
-    // event 3: "An item within a group has event 0".
+    // The base file's empty group, of part 2, takes in the top item after it,
+    // of part 0, which names event 3: "event 0 and its group's part".
     let bad = base().with(|s| s.items[5].last = 1);
-    book.refused("body-takes-in-top", bad.bytes(), 7, 116);
+    book.breaks("body-takes-in-top", bad.bytes(), PART, 116);
+    // The same with a top item of part 2: its event tells.
+    let bad = base().with(|s| (s.items[5].last, s.items[6].part) = (1, 2));
+    book.breaks("body-takes-in-top-of-its-part", bad.bytes(), EVENT, 116);
     // Both items after it, to the table's end: the first of them.
     let bad = base().with(|s| s.items[5].last = 2);
-    book.refused("body-takes-in-two-tops", bad.bytes(), 7, 116);
+    book.breaks("body-takes-in-two-tops", bad.bytes(), PART, 116);
     // One more, and the group itself runs over the table.
     let bad = base().with(|s| s.items[5].last = 3);
-    book.refused("body-takes-in-too-many", bad.bytes(), 7, 104);
-    // The top group takes in item 5.
+    book.breaks("body-takes-in-too-many", bad.bytes(), NESTING, 104);
+    // The top group, of part 1, takes in item 5, of part 2.
     let bad = base().with(|s| s.items[1].last = 4);
-    book.refused("body-one-too-long", bad.bytes(), 7, 104);
+    book.breaks("body-one-too-long", bad.bytes(), PART, 104);
+    // The same with an item 5 of part 1: its event tells.
+    let bad = base().with(|s| (s.items[1].last, s.items[5].part) = (4, 1));
+    book.breaks("body-one-too-long-of-its-part", bad.bytes(), EVENT, 104);
     // The top group ends before item 4: the inner group runs over it.
     let bad = base().with(|s| s.items[1].last = 2);
-    book.refused("body-one-too-short", bad.bytes(), 7, 80);
+    book.breaks("body-one-too-short", bad.bytes(), NESTING, 80);
     // It ends before item 3, which is then a top item with event 0.
     let bad = base().with(|s| s.items[1].last = 1);
-    book.refused("body-two-too-short", bad.bytes(), 7, 80);
+    book.breaks("body-two-too-short", bad.bytes(), EVENT, 80);
     // It is empty: item 2 is then a top item with event 0.
     let bad = base().with(|s| s.items[1].last = 0);
-    book.refused("body-none", bad.bytes(), 7, 68);
+    book.breaks("body-none", bad.bytes(), EVENT, 68);
 }
 
 /// "depth 8 is accepted, 9 refused": the item at depth 9 is against the rules.
@@ -334,8 +345,8 @@ fn bodies(book: &mut Book) {
 fn depth(book: &mut Book) {
     let a = || action(0, 0, 0);
     let g = |last| group(0, 0, last);
-    let mut bad = |name: &str, items: &[Vec<Item>], place| {
-        book.refused(name, one_event(&items.concat()).bytes(), 7, place);
+    let mut bad = |name: &str, items: &[Vec<Item>], item| {
+        book.breaks(name, one_event(&items.concat()).bytes(), NESTING, item);
     };
     bad("depth-9-action", &[chain(7, 1), vec![a()]], 132);
     bad("depth-9-group", &[chain(7, 1), vec![g(0)]], 132);

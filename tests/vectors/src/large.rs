@@ -4,11 +4,14 @@
 
 use crate::base::one_event;
 use crate::book::Book;
+use crate::rules::{Rule, ACTIONS, DELAY, ERROR, EVENT, KIND, MESSAGE, NESTING, PART, SYNCHRONY};
 use crate::score::{action, group, Item, Score};
+use crate::sound::chain;
 
 pub fn add(book: &mut Book) {
     items(book);
     actions(book);
+    broken_action(book);
     messages(book);
     text(book);
     largest(book);
@@ -30,8 +33,8 @@ fn items(book: &mut Book) {
     book.refused("items-2049", empty(2_049), 4, 12);
 }
 
-/// "of them at most 1,024 actions"; "also the 1,025th action", place "its first
-/// byte". Actions are counted at every depth, in the order of the table.
+/// "of them at most 1,024 actions"; "for the number of actions still the item's
+/// first byte". Actions are counted at every depth, in the order of the table.
 fn actions(book: &mut Book) {
     let mut sound = |name: &str, items: &[Vec<Item>]| {
         book.sound(name, one_event(&items.concat()).bytes(), 0, b"x");
@@ -42,8 +45,8 @@ fn actions(book: &mut Book) {
     // Groups after the 1,024th action are no actions.
     sound("actions-1024-then-groups", &[top(1_024), g(1, 1), g(0, 0)]);
 
-    let mut bad = |name: &str, items: &[Vec<Item>], place| {
-        book.refused(name, one_event(&items.concat()).bytes(), 7, place);
+    let mut bad = |name: &str, items: &[Vec<Item>], item| {
+        book.breaks(name, one_event(&items.concat()).bytes(), ACTIONS, item);
     };
     // Item 1,024.
     bad("actions-1025-top", &[top(1_025)], 12_324);
@@ -56,16 +59,40 @@ fn actions(book: &mut Book) {
     // A group (item 0), 512 actions (1 to 512), an inner group (513) and 513
     // actions in it (514 to 1,026): item 1,026.
     bad("actions-1025-deep", &[g(1, 1_026), inner(512), g(0, 513), inner(513)], 12_348);
-    // "from front to back": a bad item before it (item 1,023) and after it.
-    let words = |synchrony| vec![action(1, 0, 0).words(synchrony, 0)];
-    bad("actions-1025-field-before", &[top(1_023), words(1), top(1)], 12_312);
-    bad("actions-1025-field-after", &[top(1_025), words(1)], 12_324);
-    // 7 before 8: a bad label as well.
+    // "from front to back": a bad item after it and before it (item 1,023).
+    let words = || vec![action(1, 0, 0).words(1, 0)];
+    bad("actions-1025-field-after", &[top(1_025), words()], 12_324);
+    let before = one_event(&[top(1_023), words(), top(1)].concat());
+    book.breaks("actions-1025-field-before", before.bytes(), SYNCHRONY, 12_312);
+    // 27 before 8: a bad label as well.
     let score = one_event(&top(1_025)).with(|s| s.text[0] = 0);
-    book.refused("actions-1025-and-label", score.bytes(), 7, 12_324);
+    book.breaks("actions-1025-and-label", score.bytes(), ACTIONS, 12_324);
     // A full table of 1,023 groups and 1,025 actions: its last item, 2,047.
     let full = [vec![group(1, 0, 0); 1_023], top(1_025)].concat();
-    book.refused("actions-1025-of-2048", one_event(&full).bytes(), 7, 24_600);
+    book.breaks("actions-1025-of-2048", one_event(&full).bytes(), ACTIONS, 24_600);
+}
+
+/// The 1,025th action, item 1,024, breaks another rule as well: "number of
+/// actions" is the last of them.
+fn broken_action(book: &mut Book) {
+    type Damage = (&'static str, Rule, fn(&mut Item));
+    let damages: [Damage; 7] = [
+        // Of kind 2 it is no action at all.
+        ("kind", KIND, |i| i.kind = 2),
+        ("synchrony", SYNCHRONY, |i| i.synchrony = 1),
+        ("error", ERROR, |i| i.error = 3),
+        ("part", PART, |i| i.part = 16),
+        ("delay", DELAY, |i| i.delay = 5_040_001),
+        ("event", EVENT, |i| i.event = 0),
+        ("message", MESSAGE, |i| i.last = 1),
+    ];
+    for (name, rule, damage) in damages {
+        let bad = one_event(&top(1_025)).with(|s| damage(&mut s.items[1_024]));
+        book.breaks(format!("actions-1025-and-{name}"), bad.bytes(), rule, 12_324);
+    }
+    // At depth 9: items 0 to 1,023, eight groups, item 1,032.
+    let deep = one_event(&[top(1_024), chain(7, 1), inner(1)].concat());
+    book.breaks("actions-1025-and-depth", deep.bytes(), NESTING, 12_420);
 }
 
 /// "Messages: 0 to 512". One item, so message i starts at 48 + 4 i.
@@ -80,7 +107,7 @@ fn messages(book: &mut Book) {
     book.sound("messages-512-look-last", file.clone(), 511, b"b");
     book.no_message("messages-512-look-count", file, 512);
     // "below the message count"
-    book.refused("message-number-512-of-512", score(512).bytes(), 7, 36);
+    book.breaks("message-number-512-of-512", score(512).bytes(), MESSAGE, 36);
     // The last label, the last entry: 48 + 4 x 511.
     let bad = score(511).with(|s| s.text[511] = 127);
     book.refused("messages-512-last-label", bad.bytes(), 8, 2_092);
@@ -153,7 +180,7 @@ fn largest(book: &mut Book) {
     book.no_message("largest-look-count", score.bytes(), 512);
     // The last item, 1,056 + 12 x 2,047, an action.
     let bad = score.with(|s| s.items[2_047].last = 512);
-    book.refused("largest-last-item", bad.bytes(), 7, 25_620);
+    book.breaks("largest-last-item", bad.bytes(), MESSAGE, 25_620);
     // The last label's last byte; its entry is at 25,632 + 4 x 511.
     let bad = score.with(|s| s.text[24_575] = 127);
     book.refused("largest-last-label", bad.bytes(), 8, 27_676);

@@ -54,9 +54,9 @@ pub fn add(book: &mut Book) {
         // "an event's duration": the last of three, at 32 + 4 + 4.
         let bad = base().with(|s| s.events[2] = 0).bytes();
         book.refused_asking(format!("look-{ask}-in-event"), bad, number, 6, 40);
-        // "an item against the rules": the last of eight, at 44 + 7 x 12.
+        // An item's part: the last of eight, at 44 + 7 x 12, byte 3 of it.
         let bad = base().with(|s| s.items[7].part = 16).bytes();
-        book.refused_asking(format!("look-{ask}-in-item"), bad, number, 7, 128);
+        book.refused_asking(format!("look-{ask}-in-item"), bad, number, 22, 131);
         // "a message entry or its label bytes": the last of three, at 140 + 8.
         let bad = base().with(|s| s.text[10] = 0).bytes();
         book.refused_asking(format!("look-{ask}-in-label"), bad, number, 8, 148);

@@ -5,15 +5,17 @@
 //! DIR largest` makes `DIR/largest.bin` and `DIR/folded.bin`.
 //!
 //! Every expected number, place and label is written down beside its vector,
-//! from the words of document 01 that are quoted there; no file is checked by
-//! program here.
+//! from the words of documents 01 and 02 that are quoted there; no file is
+//! checked by program here.
 //!
-//! Where the paper leaves a choice the vectors rest on a decided reading:
+//! Where the papers leave a choice the vectors rest on a decided reading:
 //! all counts come before any offset; an offset is exact with count 0 too; the
 //! item that falls out of order, that stands at depth 9 or that overruns is
-//! itself the one at fault; equal top items, equal labels and unused messages
-//! are fine; messages go entry by entry, each with its label; an entry past the
-//! text's end is itself at fault; numbers are never cut to a narrower width.
+//! itself the one at fault; a part that falls within an event breaks the rule
+//! event, not the rule part; both words wrong are at the synchrony; equal top
+//! items, equal labels and unused messages are fine; messages go entry by entry,
+//! each with its label; an entry past the text's end is itself at fault; numbers
+//! are never cut to a narrower width.
 
 mod base;
 mod book;
@@ -28,6 +30,8 @@ mod largest;
 mod looks;
 mod messages;
 mod order;
+mod pairs;
+mod rules;
 mod score;
 mod sound;
 
@@ -43,6 +47,7 @@ fn write(dir: &Path) -> std::io::Result<()> {
     items::add(&mut book);
     messages::add(&mut book);
     order::add(&mut book);
+    pairs::add(&mut book);
     large::add(&mut book);
     std::fs::create_dir_all(dir.join("data"))?;
     std::fs::write(dir.join("data").join("vectors.bin"), book.data())?;
