@@ -23,7 +23,7 @@ mod replies;
 pub use replies::replied;
 pub use replies::rule_row;
 
-// What can be wrong with a file, and with a message asked of it: one case for each row of the reply table.
+// What can be wrong with a file, and with a message asked of it: one case for each row of the reply table, and one for the rules of an item together.
 pub enum Fault {
     // "file under 32 bytes"
     FileShort,

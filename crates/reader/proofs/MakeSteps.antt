@@ -1,15 +1,15 @@
 -- From the bodies to the file and its answer, in the code's own terms.
 -- Assumes nothing.
 use mathlib.Core.Path.{_≡_, refl, sym, _∙_}
-use mathlib.Core.List.{List, [], _∷_}
+use mathlib.Core.List.{List}
 use Prim.Native.Nat.{ℕ, _-_, _<_, _≤_}
 use native.Mathlib.Omega.{arith}
 use lib.ListN.{length, take}
 use lib.Seq.{length-take-le}
 use borrow.Author.Tests.{le-leb, lt-leb}
 use borrow.Author.Needs.{needs}
-use Rattle.base.specs.Tests.{pick, every, between}
-use Rattle.base.specs.Checks.{Check, fine, refused, need, firstFault}
+use Rattle.base.specs.Tests.{pick}
+use Rattle.base.specs.Checks.{fine, refused, firstFault}
 use Rattle.ascii.specs.Laying.{Laid}
 use Rattle.tokens.specs.declared.Place.{Place}
 use Rattle.tokens.specs.Places.{placeBehind}
@@ -17,7 +17,7 @@ use Rattle.contents.specs.declared.Counts.{Counts}
 use Rattle.contents.specs.declared.Fault.{Fault}
 use Rattle.contents.specs.declared.Verdict.{Verdict}
 use Rattle.contents.specs.declared.Verdict.the-variants.{Fine, Refused}
-use Rattle.contents.specs.Limits.{mostEvents, mostItems, mostMessages, mostText, longestScore}
+use Rattle.contents.specs.Limits.{longestScore}
 use Rattle.contents.specs.Contents.{countsRight}
 use Rattle.contents.specs.Inner.{Counted}
 use Rattle.contents.specs.Replies.{verdictOf}
@@ -26,7 +26,7 @@ use Rattle.contents.proofs.ContentsLaws.{counts-told}
 use Rattle.score.specs.Piece.{Piece}
 use Rattle.score.specs.Encode.{countsIn, encode}
 use Rattle.score.specs.File.{checked}
-use Rattle.score.proofs.EncodingPieces.{size-encode}
+use Rattle.score.proofs.EncodingPieces.{size-encode, counts-right, last-told}
 use Rattle.filing.specs.Pieces.{filed}
 use Rattle.filing.specs.Bodies.{Bodies, fileIn, settled, Settled}
 use Rattle.text.specs.declared.Stage.the-variants.{Start}
@@ -61,22 +61,6 @@ module _ (t : List ℕ) (c : Counts) (out : List ℕ) (asked : Writable t c out)
 pub ruleset writes = (page-begun, write-asked, written-file, needs)
 
 -- ---- the file's answer
-
-counts-right : (c : Counts) → Counted c → countsRight c ≡ fine
-unfolding countsRight firstFault need between every
-counts-right c k =
-    rw (
-      le-leb 1 (c .events) (k .some),
-      le-leb (c .events) mostEvents (k .events),
-      le-leb (c .items) mostItems (k .items),
-      le-leb (c .messages) mostMessages (k .messages),
-      le-leb (c .text) mostText (k .text),
-    )
-
-last-told : (w : Check Fault) → firstFault (w ∷ []) ≡ w
-unfolding firstFault
-last-told fine = refl
-last-told (refused x) = refl
 
 module _ (f m m′ : List ℕ) (v : Verdict) (a : Settled f m m′ v) where
   pub settle-refused : (x : Fault) → v ≡ Refused x → Settles f m m′ (BadFile x)

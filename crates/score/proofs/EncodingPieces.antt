@@ -10,11 +10,12 @@ use lib.ListN.{length, getD, drop, length-append}
 use lib.Dec.{leb}
 use borrow.Author.Tests.{eq-eqb, le-leb}
 use Rattle.page.specs.declared.Item.{Item}
-use Rattle.base.specs.Checks.{fine, need, firstFault}
-use Rattle.base.proofs.TestLaws.{every-head, every-rest, between-high}
+use Rattle.base.specs.Checks.{Check, fine, refused, need, firstFault}
+use Rattle.base.proofs.TestLaws.{every-head, every-rest, between-in, between-high}
+use Rattle.contents.specs.declared.Fault.{Fault}
 use Rattle.contents.specs.declared.Counts.{Counts}
 use Rattle.contents.specs.Limits.{contentsSize, eventSize, itemSize, messageSize, longestLabel, mostText}
-use Rattle.contents.specs.Contents.{offsetsOf, countsOf, countsRight, offsetsRight, eventsAt, itemsAt, messagesAt, textAt, sizeOf}
+use Rattle.contents.specs.Contents.{countsOf, countsRight, offsetsRight, eventsAt, itemsAt, messagesAt, textAt, sizeOf}
 use Rattle.contents.specs.Inner.{Counted}
 use Rattle.items.specs.Items.{itemsFrom}
 use Rattle.messages.specs.Messages.{readable, labelsAt, messagesRight}
@@ -63,10 +64,6 @@ module _ (p : Piece) (l : Fielded p) where
   counts-encode : countsOf (encode p) ≡ countsIn p
   unfolding encode
   counts-encode = counts-read (encode p) (countsIn p) _ counted refl
-
-  offsets-encode : offsetsOf (encode p) ≡ offsetsIn (countsIn p)
-  unfolding encode
-  offsets-encode = offsets-read (encode p) (countsIn p) _ counted refl
 
   at-events : drop eventsAt (encode p) ≡ durationBytes (p .durations) ++ (itemBytes (p .items) ++ (entryBytes 0 (p .labels) ++ textBytes (p .labels)))
   unfolding encode
@@ -129,16 +126,29 @@ pub offsets-right : (c : Counts) → offsetsRight (offsetsIn c) c (sizeOf c) ≡
 unfolding offsetsRight firstFault need
 offsets-right c = rw (eq-eqb (itemsAt c) _ refl, eq-eqb (messagesAt c) _ refl, eq-eqb (textAt c) _ refl, eq-eqb (sizeOf c) _ refl)
 
-encode-fine : (p : Piece) → Lawful p → checked (encode p) ≡ fine
+pub counts-right : (c : Counts) → Counted c → countsRight c ≡ fine
+unfolding countsRight firstFault need
+counts-right c k = rw (between-in _ _ _ (k .some) (k .events), le-leb _ _ (k .items), le-leb _ _ (k .messages), le-leb _ _ (k .text))
+
+pub last-told : (v : Check Fault) → firstFault (v ∷ []) ≡ v
+unfolding firstFault
+last-told fine = refl
+last-told (refused x) = refl
+
+-- Where a file's contents say right counts and its size is theirs, the file check comes down to the bodies.
+pub bodies-decide : (f : List ℕ) (c : Counts) (ys : List ℕ) → Counted c → f ≡ contentsBytes c ++ ys → length f ≡ sizeOf c → checked f ≡ bodiesRight f c
 unfolding checked firstFault need
-encode-fine p l =
-    let f = encode p in
-    let n = lawful-fielded p l in
-    let long : leb contentsSize (length f) ≡ true = le-leb contentsSize (length f) (omega (arith, size-encode p)) in
-    let counts : countsRight (countsOf f) ≡ fine = rw (counts-encode p n) (l .counts) in
-    let offsets : offsetsRight (offsetsOf f) (countsOf f) (length f) ≡ fine = rw (offsets-encode p n, counts-encode p n, size-encode p) (offsets-right (countsIn p)) in
-    let bodies : bodiesRight f (countsOf f) ≡ fine = rw (counts-encode p n) (bodies-encode p l) in
-    rw (long, counts, offsets, bodies)
+bodies-decide f c ys k e size =
+    let long : leb contentsSize (length f) ≡ true = le-leb contentsSize (length f) (omega arith) in
+    rw (counts-read f c ys k e, offsets-read f c ys k e, long, size, counts-right c k, offsets-right c) (last-told (bodiesRight f c))
+
+-- So of the file of a piece with right counts, whatever else is wrong with it.
+pub encode-decided : (p : Piece) → countsRight (countsIn p) ≡ fine → checked (encode p) ≡ bodiesRight (encode p) (countsIn p)
+unfolding encode
+encode-decided p e = bodies-decide (encode p) (countsIn p) _ (counts-held (countsIn p) e) refl (size-encode p)
+
+encode-fine : (p : Piece) → Lawful p → checked (encode p) ≡ fine
+encode-fine p l = encode-decided p (l .counts) ∙ bodies-encode p l
 
 -- A lawful piece's file is accepted.
 pub encode-accepted : (p : Piece) → Lawful p → Accepted (encode p)

@@ -12,3 +12,4 @@ pub mod EncodingReads
 pub mod EncodingPieces
 pub mod LongFile
 pub mod Where7Stood
+pub mod BodyFaults

@@ -1,4 +1,4 @@
--- The file check. "Order of checks. File check: 3, 4, 5, then 6, 7 and 8 over the file from front to back."
+-- The file check. "Order of checks. File check: 3, 4, 5, then 6, 7 and 8 over the file from front to back", with 20 to 27 "where 7 stood".
 use Prim.Native.Nat.{ℕ}
 use mathlib.Core.Path.{_≡_}
 use mathlib.Core.List.{List, [], _∷_}

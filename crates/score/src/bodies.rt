@@ -1,4 +1,4 @@
-// The bodies of a file whose contents are right: "6, 7 and 8 over the file from front to back".
+// The bodies of a file whose contents are right: 6, 20 to 27 and 8, "over the file from front to back".
 ghost use mathlib.Core.Path.{_≡_};
 ghost use Rattle.contents.specs.Replies.{verdictOf};
 ghost use Rattle.contents.specs.Inner.{RightContents};

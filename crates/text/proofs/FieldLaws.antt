@@ -68,7 +68,7 @@ beats-below bs = go (number field bs) where
 
 -- ---- a line that is read
 
-data Fields : Line → Type 0 where
+pub data Fields : Line → Type 0 where
   of-heading : Fields heading
   of-message : {l : List ℕ} → Fields (message l)
   of-event : {g : ℕ} → g < field → Fields (event g)
@@ -179,12 +179,12 @@ line-keeps (Playing (suc depth)) bs = closed-keeps bs
 
 -- ---- the lines of a text
 
-data AllFields : Script → Type 0 where
+pub data AllFields : Script → Type 0 where
   at-end : AllFields done
   at-fault : {left : List ℕ} → AllFields (fault left)
   and-then : {l : Line} {s : Script} → Fields l → AllFields s → AllFields (more l s)
 
-script-fields : (n : ℕ) (stage : Stage) (bs : List ℕ) → AllFields (scriptFrom n stage bs)
+pub script-fields : (n : ℕ) (stage : Stage) (bs : List ℕ) → AllFields (scriptFrom n stage bs)
 unfolding scriptFrom pick follow
 script-fields zero stage bs = at-end
 script-fields (suc n) stage bs = go (isOver stage (blanks bs)) (line stage (blanks bs)) (line-keeps stage (blanks bs)) (λ l left. script-fields n (after l stage) left) where

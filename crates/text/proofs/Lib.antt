@@ -12,6 +12,7 @@ pub mod TextLaws
 pub mod BodyLaws
 pub mod PageLaws
 pub mod RoundTrip
+pub mod NeverWords
 pub mod GrantedLaws
 pub mod Examples
 pub mod SqueezedTokens

@@ -1,7 +1,7 @@
 -- No unfolded file breaks a rule of kind, nesting or number of actions: its page has actions and groups only, a group holds just its body, and its depth and actions are
 -- within the limits. Assumes nothing.
 use mathlib.Core.Path.{_≡_, refl, ap, _∙_}
-use mathlib.Core.Bool.{Bool, true, false}
+use mathlib.Core.Bool.{true, false}
 use mathlib.Core.List.{List, [], _∷_, _++_, append-assoc}
 use Prim.Native.Nat.{ℕ, zero, suc, _+_, _<_, _≤_}
 use native.Mathlib.Omega.{arith}
@@ -9,14 +9,14 @@ use lib.ListN.{length, take, drop, length-append}
 use borrow.Author.Tests.{le-leb, lt-ltb}
 use Rattle.page.specs.declared.Item.{Item}
 use Rattle.base.specs.Tests.{pick, every, oneOf}
-use Rattle.base.specs.Checks.{Check, fine, refused, need}
+use Rattle.base.specs.Checks.{Check, fine, refused}
 use Rattle.contents.specs.declared.Fault.{Fault}
 use Rattle.contents.specs.declared.Fault.the-variants.{BadItem}
 use Rattle.contents.specs.declared.ItemRule.{ItemRule}
 use Rattle.contents.specs.declared.ItemRule.the-variants as rule
 use Rattle.contents.specs.declared.Counts.{Counts}
 use Rattle.contents.specs.Limits.{itemSize, mostActions, deepest}
-use Rattle.contents.specs.Contents.{countsOf, itemsAt}
+use Rattle.contents.specs.Contents.{itemsAt}
 use Rattle.contents.specs.Replies.{ruleRow, faultRow}
 use Rattle.items.specs.declared.walk.Walk.{Walk}
 use Rattle.items.specs.declared.walk.Walk.the-variants.{Actions, Stop}
@@ -28,6 +28,7 @@ use Rattle.score.specs.Piece.{decode}
 use Rattle.score.specs.File.{checked}
 use Rattle.score.proofs.EncodingBytes.{byte-first, u16-read}
 use Rattle.score.proofs.EncodingReads.{from-last, from-next}
+use Rattle.score.proofs.BodyFaults.{Finds, no-fault, some-fault, need-of, need-kept, Told, ToldRule, item-of, bodies-of}
 use Rattle.unfolding.specs.Extended.{extendedOf}
 use Rattle.unfolding.specs.Unfolded.{Unfolded, items, actions, depth, groupItem, page}
 use Rattle.unfolding.specs.Sizes.{Score, scoreOf, countsOn, withinLimits, fileOf}
@@ -37,7 +38,7 @@ use Rattle.unfolding.proofs.Shapes.{Kinds, at-end, at-action, at-group,
 use Rattle.unfolding.proofs.CountLaws.{page-length}
 use Rattle.unfolding.proofs.LimitLaws.{limits-held, limits-counted}
 use Rattle.unfolding.proofs.FileLaws.{counts-file, at-items}
-use Rattle.unfolding.proofs.OneOutcome.{Finds, no-fault, some-fault, first-of, need-of, none-left, Told, bodies-decide, bodies-of, Number, granted, short-room, of-file, of-extended, of-limit, numbers-of}
+use Rattle.unfolding.proofs.OneOutcome.{file-decided, Number, granted, short-room, of-file, of-extended, of-limit, numbers-of}
 
 -- Not the number of kind, of nesting or of the number of actions.
 abbrev Other : ℕ → Type 0
@@ -46,24 +47,21 @@ Other n = oneOf (20 ∷ 25 ∷ 27 ∷ []) n ≡ false
 -- ---- one item: where these three rules are kept, another one is broken or none
 
 abbrev OtherRule : ItemRule → Type 0
-OtherRule r = Other (ruleRow r .number)
-
-need-kept : (b : Bool) (r : ItemRule) → b ≡ true → Finds OtherRule (need b r)
-unfolding need
-need-kept b r e = rw e no-fault
+OtherRule r = ToldRule Other r
 
 item-other : (i : Item) (c : Counts) (h : Setting) (left n : ℕ) → kindRight i ≡ true → nestingRight i h left ≡ true → actionsRight i n ≡ true → Finds OtherRule (itemRight i c h left n)
-unfolding itemRight ruleRow pick
+unfolding ruleRow pick
 item-other i c h left n kind nesting actions =
-    first-of OtherRule _ _ (need-kept _ rule.Kind kind)
-    (first-of OtherRule _ _ (need-of OtherRule _ rule.Synchrony refl)
-    (first-of OtherRule _ _ (need-of OtherRule _ rule.ErrorWord refl)
-    (first-of OtherRule _ _ (need-of OtherRule _ rule.Part refl)
-    (first-of OtherRule _ _ (need-of OtherRule _ rule.Delay refl)
-    (first-of OtherRule _ _ (need-of OtherRule _ rule.Event refl)
-    (first-of OtherRule _ _ (need-kept _ rule.Nesting nesting)
-    (first-of OtherRule _ _ (need-of OtherRule _ rule.Message refl)
-    (first-of OtherRule _ _ (need-kept _ rule.Actions actions) (none-left OtherRule)))))))))
+    item-of OtherRule i c h left n
+    (need-kept OtherRule _ rule.Kind kind)
+    (need-of OtherRule _ rule.Synchrony refl)
+    (need-of OtherRule _ rule.ErrorWord refl)
+    (need-of OtherRule _ rule.Part refl)
+    (need-of OtherRule _ rule.Delay refl)
+    (need-of OtherRule _ rule.Event refl)
+    (need-kept OtherRule _ rule.Nesting nesting)
+    (need-of OtherRule _ rule.Message refl)
+    (need-kept OtherRule _ rule.Actions actions)
 
 module _ (i : Item) (c : Counts) (h : Setting) (left n : ℕ) (shallow : h .depth ≤ deepest) where
   action-other : i .kind ≡ 0 → n < mostActions → Finds OtherRule (itemRight i c h left n)
@@ -162,7 +160,7 @@ module _ (s : Score) (kinds : Kinds (s .items)) (within : withinLimits s ≡ tru
       let k = limits-counted s within in
       rw (counts-file s k, ← page-length (s .items)) (alike-read (fileOf s) (itemsAt (countsOn s)) (page (s .items)) _ (at-items s k))
 
-  items-other : Finds (Told Other) (itemsRight (countsOf (fileOf s)) (decode (fileOf s) .items))
+  items-other : Finds (Told Other) (itemsRight (countsOn s) (decode (fileOf s) .items))
   unfolding itemsRight walked
   items-other =
       let k = limits-held s within in
@@ -173,7 +171,7 @@ no-nested-fault : (f : List ℕ) → withinLimits (scoreOf (extendedOf f)) ≡ t
 unfolding unfoldedFile scoreOf pick
 no-nested-fault f w =
     let s = scoreOf (extendedOf f) in
-    rw (bodies-decide s (limits-counted s w)) (bodies-of Other refl refl (fileOf s) (countsOf (fileOf s)) (items-other s (unfolded-kinds _) w))
+    rw (file-decided s (limits-counted s w)) (bodies-of Other refl refl (fileOf s) (countsOn s) (items-other s (unfolded-kinds _) w))
 
 -- ---- the numbers that a call to unfold tells
 

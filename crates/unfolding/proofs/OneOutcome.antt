@@ -2,36 +2,23 @@
 -- Assumes nothing.
 use mathlib.Core.Path.{_≡_, refl, sym, _∙_}
 use mathlib.Core.Bool.{Bool, true, false}
-use mathlib.Core.List.{List, [], _∷_}
-use Prim.Native.Nat.{ℕ, zero, suc, _+_, _*_, _<_, _≤_}
+use mathlib.Core.List.{List}
+use Prim.Native.Nat.{ℕ, _<_, _≤_}
 use native.Mathlib.Omega.{arith}
 use lib.Dec.{leb}
-use lib.ListN.{length, drop, take, length-append, length-drop}
+use lib.ListN.{length, drop, length-append, length-drop}
 use borrow.Author.Tests.{leb-true, le-leb, lt-leb}
-use Rattle.page.specs.declared.Item.{Item}
 use Rattle.base.specs.Tests.{pick}
-use Rattle.base.specs.Checks.{Check, fine, refused, need, firstFault}
-use Rattle.base.proofs.TestLaws.{between-in}
+use Rattle.base.specs.Checks.{Check, fine, refused}
 use Rattle.contents.specs.declared.Fault.{Fault}
-use Rattle.contents.specs.declared.Fault.the-variants.{BadEvent, BadItem, BadMessage, TextLeft}
 use Rattle.contents.specs.declared.ItemRule.{ItemRule}
-use Rattle.contents.specs.declared.Counts.{Counts}
-use Rattle.contents.specs.Limits.{contentsSize, eventSize, itemSize, messageSize, longestScore}
-use Rattle.contents.specs.Bytes.{u16At}
-use Rattle.contents.specs.Contents.{offsetsOf, countsOf, countsRight, offsetsRight, eventsAt, itemsAt, messagesAt}
+use Rattle.contents.specs.Limits.{longestScore}
 use Rattle.contents.specs.Inner.{Counted}
-use Rattle.contents.specs.Replies.{ruleRow, faultRow}
-use Rattle.items.specs.declared.walk.Walk.{Walk}
-use Rattle.items.specs.declared.walk.Walk.the-variants.{Actions, Stop}
-use Rattle.items.specs.declared.Setting.{Setting}
-use Rattle.items.specs.Items.{withinOf, ownOf, next, inside, onward, onFrom, walkOf, walked, outset, walkFault, itemsRight}
 use Rattle.contents.proofs.RuleRows.{rule-numbered}
-use Rattle.messages.specs.Messages.{messagesRight}
-use Rattle.score.specs.Events.{eventsRight}
 use Rattle.score.specs.Piece.{decode}
 use Rattle.score.specs.File.{bodiesRight, checked}
-use Rattle.score.proofs.EncodingReads.{offsetsIn, offsets-read}
-use Rattle.score.proofs.EncodingPieces.{offsets-right}
+use Rattle.score.proofs.EncodingPieces.{bodies-decide}
+use Rattle.score.proofs.BodyFaults.{Finds, no-fault, some-fault, Told, ToldRule, any-breaks, items-of, bodies-of}
 use Rattle.extended.specs.Right.{extendedRight}
 use Rattle.unfolding.specs.declared.Unfolding.{Unfolding}
 use Rattle.unfolding.specs.declared.Unfolding.the-variants.{Made, NoRoom, BadExtended, OverLimit, BadFile}
@@ -40,7 +27,7 @@ use Rattle.unfolding.specs.Sizes.{Score, scoreOf, countsOn, withinLimits
 use Rattle.unfolding.specs.Answers.{unfoldedFile, judged, answered, unfoldAnswer, roomLeft}
 use Rattle.unfolding.specs.Replies.{unfoldRow}
 use Rattle.unfolding.proofs.LimitLaws.{limits-counted}
-use Rattle.unfolding.proofs.FileLaws.{counts-file, file-size}
+use Rattle.unfolding.proofs.FileLaws.{file-size}
 
 -- ---- one outcome
 
@@ -99,85 +86,12 @@ limit-told = refl
 
 -- ---- the contents of what is made are right
 
-module _ (s : Score) (k : Counted (countsOn s)) where
-  file-long : leb contentsSize (length (fileOf s)) ≡ true
-  file-long = le-leb contentsSize (length (fileOf s)) (omega (arith, file-size s))
-
-  file-counts : countsRight (countsOf (fileOf s)) ≡ fine
-  unfolding countsRight firstFault need
-  file-counts =
-      rw (
-        counts-file s k,
-        between-in _ _ _ (k .some) (k .events),
-        le-leb _ _ (k .items),
-        le-leb _ _ (k .messages),
-        le-leb _ _ (k .text),
-      )
-
-  offsets-file : offsetsOf (fileOf s) ≡ offsetsIn (countsOn s)
-  unfolding fileOf
-  offsets-file = offsets-read (fileOf s) (countsOn s) _ k refl
-
-  file-offsets : offsetsRight (offsetsOf (fileOf s)) (countsOf (fileOf s)) (length (fileOf s)) ≡ fine
-  file-offsets = rw (offsets-file, counts-file s k, file-size s) (offsets-right (countsOn s))
-
-  -- So the file check comes down to the bodies.
-  pub bodies-decide : checked (fileOf s) ≡ bodiesRight (fileOf s) (countsOf (fileOf s))
-  unfolding checked firstFault need
-  bodies-decide = rw (file-long, file-counts, file-offsets) (alone (bodiesRight (fileOf s) (countsOf (fileOf s))))
-    where
-      alone : (v : Check Fault) → firstFault (v ∷ []) ≡ v
-      alone fine = refl
-      alone (refused x) = refl
-
--- ---- what a check finds
-
--- Nothing, or a fault of which P holds.
-pub data Finds {X : Type 0} (P : X → Type 0) : Check X → Type 0 where
-  no-fault : Finds P fine
-  some-fault : {x : X} → P x → Finds P (refused x)
-
-module _ {X : Type 0} (P : X → Type 0) where
-  pub first-of : (v : Check X) (l : List (Check X)) → Finds P v → Finds P (firstFault l) → Finds P (firstFault (v ∷ l))
-  unfolding firstFault
-  first-of fine l h k = k
-  first-of (refused x) l h k = h
-
-  pub need-of : (b : Bool) (x : X) → P x → Finds P (need b x)
-  unfolding need
-  need-of true x p = no-fault
-  need-of false x p = some-fault p
-
-  pub none-left : Finds P (firstFault [])
-  unfolding firstFault
-  none-left = no-fault
+-- So the file check comes down to the bodies.
+pub file-decided : (s : Score) → Counted (countsOn s) → checked (fileOf s) ≡ bodiesRight (fileOf s) (countsOn s)
+unfolding fileOf
+file-decided s k = bodies-decide (fileOf s) (countsOn s) _ k refl (file-size s)
 
 -- ---- the faults of the bodies
-
--- P holds of the number that is told of a fault.
-abbrev pub Told : (ℕ → Type 0) → Fault → Type 0
-Told P x = P (faultRow x .number)
-
-module _ (P : ℕ → Type 0) (six : P 6) (eight : P 8) where
-  events-of : (at : ℕ) (ds : List ℕ) → Finds (Told P) (eventsRight at ds)
-  unfolding eventsRight faultRow
-  events-of at [] = no-fault
-  events-of at (d ∷ ds) =
-      first-of (Told P) _ _ (need-of (Told P) _ (BadEvent at) six) (first-of (Told P) _ _ (events-of (at + eventSize) ds) (none-left (Told P)))
-
-  messages-of : (f : List ℕ) (c : Counts) (at count from : ℕ) → Finds (Told P) (messagesRight f c at count from)
-  unfolding messagesRight faultRow
-  messages-of f c at zero from = need-of (Told P) _ TextLeft eight
-  messages-of f c at (suc count) from =
-      first-of (Told P) _ _ (need-of (Told P) _ (BadMessage at) eight)
-      (first-of (Told P) _ _ (messages-of f c (at + messageSize) count (from + u16At f (at + 2))) (none-left (Told P)))
-
-  -- Beside the items' own faults the bodies have 6 and 8.
-  pub bodies-of : (f : List ℕ) (c : Counts) → Finds (Told P) (itemsRight c (decode f .items)) → Finds (Told P) (bodiesRight f c)
-  unfolding bodiesRight
-  bodies-of f c h =
-      first-of (Told P) _ _ (events-of eventsAt (decode f .durations))
-      (first-of (Told P) _ _ h (first-of (Told P) _ _ (messages-of f c (messagesAt c) (c .messages) 0) (none-left (Told P))))
 
 -- The numbers of a fault of an event, an item or a message: 6, 8, and 20 to 27.
 pub data OfBody : ℕ → Type 0 where
@@ -185,39 +99,16 @@ pub data OfBody : ℕ → Type 0 where
   of-message : OfBody 8
   of-item : {n : ℕ} → 20 ≤ n → n ≤ 27 → OfBody n
 
-abbrev OfBodies : Check Fault → Type 0
-OfBodies v = Finds (Told OfBody) v
-
-walk-onward : (w : Walk) (more : ℕ → Walk) → OfBodies (walkFault w) → ((n : ℕ) → OfBodies (walkFault (more n))) → OfBodies (walkFault (onward w more))
-unfolding onward
-walk-onward (Actions n) more h k = k n
-walk-onward (Stop x) more h k = h
-
-walk-on : (v : Check ItemRule) (at : ℕ) (w : Walk) → OfBodies (walkFault w) → OfBodies (walkFault (onFrom v at w))
-unfolding onFrom walkFault faultRow
-walk-on fine at w h = h
-walk-on (refused r) at w h = let n = rule-numbered r in some-fault {x = BadItem r (at + ruleRow r .place)} (of-item (n .0) (n .1))
-
-walk-of : (n : ℕ) (c : Counts) (at : ℕ) (is : List Item) (h : Setting) (actions : ℕ) → OfBodies (walkFault (walkOf n c at is h actions))
-unfolding walkOf walkFault
-walk-of zero c at is h actions = no-fault
-walk-of (suc n) c at [] h actions = no-fault
-walk-of (suc n) c at (i ∷ is) h actions =
-    walk-on _ at _
-    (walk-onward _ _ (walk-of n c (at + itemSize) (take (withinOf i) is) (inside i h) (actions + ownOf i))
-    (λ m. walk-of n c (at + itemSize + itemSize * withinOf i) (drop (withinOf i) is) (next i h) m))
-
-items-of : (c : Counts) (is : List Item) → OfBodies (itemsRight c is)
-unfolding itemsRight walked
-items-of c is = walk-of (length is) c (itemsAt c) is outset 0
+rule-of-body : (r : ItemRule) → ToldRule OfBody r
+rule-of-body r = let n = rule-numbered r in of-item (n .0) (n .1)
 
 -- The check of an unfolded file within the limits finds no fault of its contents.
 pub no-contents-fault : (f : List ℕ) → withinLimits (scoreOf (extendedOf f)) ≡ true → Finds (Told OfBody) (checked (unfoldedFile f))
 unfolding unfoldedFile
 no-contents-fault f w =
     let s = scoreOf (extendedOf f) in
-    let made = fileOf s in
-    rw (bodies-decide s (limits-counted s w)) (bodies-of OfBody of-event of-message made (countsOf made) (items-of (countsOf made) (decode made .items)))
+    let c = countsOn s in
+    rw (file-decided s (limits-counted s w)) (bodies-of OfBody of-event of-message (fileOf s) c (items-of OfBody c (any-breaks OfBody rule-of-body c (decode (fileOf s) .items))))
 
 -- ---- the numbers that a call to unfold tells
 
