@@ -18,7 +18,7 @@ firstFault [] = fine
 firstFault (fine ∷ l) = firstFault l
 firstFault (refused x ∷ l) = refused x
 
--- Whether there is none.
+-- Whether a check found none.
 unfoldable pub isFine : {X : Type 0} → Check X → Bool
 isFine fine = true
 isFine (refused x) = false

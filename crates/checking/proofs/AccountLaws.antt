@@ -10,7 +10,6 @@ use mir.Val.{SFits, ofZ, toZ}
 use mir.Facts.{toZ-ofZ}
 use borrow.Author.Needs.{needs}
 use Rattle.base.specs.Tests.{pick}
-use Rattle.base.specs.Checks.{isFine}
 use Rattle.ascii.specs.Laying.{Laid}
 use Rattle.streams.proofs.CallSteps.{bits-say}
 use Rattle.reasons.specs.Reasons.{unreadLine}

@@ -12,14 +12,14 @@ use Rattle.base.specs.Tests.{pick, between}
 use Rattle.base.specs.Checks.{refused}
 use Rattle.base.proofs.CheckLaws.{need-fine}
 use Rattle.contents.specs.declared.Fault.{Fault}
-use Rattle.contents.specs.declared.Fault.the-variants.{FileShort, BadCount, BadOffset, BadLength, BadEvent, BadItem, BadMessage, TextLeft, NoMessage}
+use Rattle.contents.specs.declared.Fault.the-variants.{FileShort, BadCount, BadOffset, BadLength, BadEvent, BadMessage, TextLeft, NoMessage}
 use Rattle.contents.specs.declared.ItemRule.{ItemRule}
 use Rattle.contents.specs.declared.Counts.{Counts}
 use Rattle.contents.specs.Limits.{contentsSize, eventSize, itemSize, messageSize, longest}
 use Rattle.contents.specs.Contents.{countsOf, offsetsOf, countsRight, offsetsRight, eventsAt, itemsAt, messagesAt}
-use Rattle.contents.specs.Replies.{ruleRow, faultRow}
+use Rattle.contents.specs.Replies.{faultRow}
 use Rattle.items.specs.declared.Setting.{Setting}
-use Rattle.items.specs.Items.{itemRight, outset, itemsRight}
+use Rattle.items.specs.Items.{itemRight, brokenAt, outset, itemsRight}
 use Rattle.items.specs.Ranged.{blank}
 use Rattle.contents.proofs.RuleRows.{field-within}
 use Rattle.messages.specs.Messages.{messageRight, messagesRight}
@@ -53,7 +53,7 @@ pub data Named (f : List ℕ) : Fault → Entry → Type 0 where
   -- It is wrong where it stands, this is the first rule that it breaks, and those before it are right. The place is that of the rule's field.
   item : (p : ℕ) → p < countsOf f .items → (h : Setting) (left actions : ℕ) → Standing (countsOf f) (decode f .items) outset 0 p h left actions
       → (r : ItemRule) → itemRight (getD (decode f .items) p blank) (countsOf f) h left actions ≡ refused r
-      → Named f (BadItem r (itemsAt (countsOf f) + itemSize * p + ruleRow r .place)) (Item p)
+      → Named f (brokenAt (itemsAt (countsOf f) + itemSize * p) r) (Item p)
   -- The entry or its label is wrong, where the text of those before it ends, and they are right.
   message : (n : ℕ) → n < countsOf f .messages
       → messageRight f (countsOf f) (messagesAt (countsOf f) + messageSize * n) (textTo f (messagesAt (countsOf f)) n 0) ≡ false

@@ -20,7 +20,7 @@ use Rattle.score.specs.Piece.{decode}
 use Rattle.score.specs.File.{bodiesRight, checked}
 use Rattle.session.specs.Replies.{refusalRow}
 use Rattle.wording.specs.Words.{ruleWords, faultWords, refusalWords, faultPlaced, placed}
-use Rattle.refusals.specs.Entries.{entryAt, entryOf, fieldWords, entryWords, ruleField, faultField, fieldOf, namedWords}
+use Rattle.refusals.specs.Entries.{entryAt, entryOf, fieldWords, entryWords, ruleField, faultField, refusalField, namedWords}
 use Rattle.refusals.specs.Line.{atByte, placeWords, whereWords, refusalLine}
 use Rattle.checking.specs.Tallies.{actionsIn, uses, partsIn}
 use Rattle.checking.specs.Checked.{listed, partsTold, countsTold, acceptedLine, lineBy, checkedLine}
@@ -44,7 +44,7 @@ small =
     ∷ []
 
 pub small-accepted : checkedLine (bytesOf "small") small ≡ bytesOf "small: accepted, 3 events, 3 items, 2 actions, 2 messages, parts 0\n"
-unfolding small checkedLine lineBy checked bodiesRight countsOf offsetsOf u16At u32At countsRight offsetsRight eventsRight durationsAt itemsRight walked walkOf onward onFrom walkFault itemRight synchronyRight errorRight partRight eventRight inOrder nestingRight numberRight actionsRight withinOf ownOf next inside itemAt itemsFrom messagesRight messageRight readable labelByte byRange part decode firstFault need every between pick acceptedLine countsTold listed partsTold actionsIn uses partsIn only decimal digitsOf refusalLine whereWords placeWords atByte refusalRow faultRow ruleRow refusalWords faultWords ruleWords placed faultPlaced entryOf entryAt entryWords fieldWords namedWords fieldOf faultField ruleField
+unfolding small checkedLine lineBy checked bodiesRight countsOf offsetsOf u16At u32At countsRight offsetsRight eventsRight durationsAt itemsRight walked walkOf onward onFrom walkFault itemRight synchronyRight errorRight partRight eventRight inOrder nestingRight numberRight actionsRight withinOf ownOf next inside itemAt itemsFrom messagesRight messageRight readable labelByte byRange part decode firstFault need every between pick acceptedLine countsTold listed partsTold actionsIn uses partsIn only decimal digitsOf refusalLine whereWords placeWords atByte refusalRow faultRow ruleRow refusalWords faultWords ruleWords placed faultPlaced entryOf entryAt entryWords fieldWords namedWords refusalField faultField ruleField
 small-accepted = refl
 
 -- The same with one byte of an item changed, for each rule but the last: the group, at byte 44, then its two actions, at 56 and 68.
@@ -72,12 +72,12 @@ pub small-bad-items : changed 44 2
     ∷ bytesOf "small: refused 21 at byte 58, item 1, error word: an item's words, out of range or not 0 on an action\n"
     ∷ bytesOf "small: refused 22 at byte 47, item 0, part: an item's part, above 15 or not its group's\n"
     ∷ bytesOf "small: refused 22 at byte 71, item 2, part: an item's part, above 15 or not its group's\n"
-    ∷ bytesOf "small: refused 23 at byte 60, item 1, delay: an item's delay, above 5,040,000\n"
+    ∷ bytesOf "small: refused 23 at byte 60, item 1, delay: an item's delay, above 5,040,000 grains (1,000 beats)\n"
     ∷ bytesOf "small: refused 24 at byte 52, item 0, event: an item's event, out of range, out of order by event and part, or not 0 within a group\n"
     ∷ bytesOf "small: refused 24 at byte 52, item 0, event: an item's event, out of range, out of order by event and part, or not 0 within a group\n"
     ∷ bytesOf "small: refused 24 at byte 76, item 2, event: an item's event, out of range, out of order by event and part, or not 0 within a group\n"
     ∷ bytesOf "small: refused 25 at byte 54, item 0, last: an item's nesting, at depth 9 or a group that ends past what holds it\n"
     ∷ bytesOf "small: refused 26 at byte 78, item 2, last: an action's message number, not below the message count\n"
     ∷ []
-unfolding small changed checkedLine lineBy checked bodiesRight countsOf offsetsOf u16At u32At countsRight offsetsRight eventsRight durationsAt itemsRight walked walkOf onward onFrom walkFault itemRight synchronyRight errorRight partRight eventRight inOrder nestingRight numberRight actionsRight withinOf ownOf next inside itemAt itemsFrom messagesRight messageRight readable labelByte byRange part decode firstFault need every between pick acceptedLine countsTold listed partsTold actionsIn uses partsIn only decimal digitsOf refusalLine whereWords placeWords atByte refusalRow faultRow ruleRow refusalWords faultWords ruleWords placed faultPlaced entryOf entryAt entryWords fieldWords namedWords fieldOf faultField ruleField
+unfolding small changed checkedLine lineBy checked bodiesRight countsOf offsetsOf u16At u32At countsRight offsetsRight eventsRight durationsAt itemsRight walked walkOf onward onFrom walkFault itemRight synchronyRight errorRight partRight eventRight inOrder nestingRight numberRight actionsRight withinOf ownOf next inside itemAt itemsFrom messagesRight messageRight readable labelByte byRange part decode firstFault need every between pick acceptedLine countsTold listed partsTold actionsIn uses partsIn only decimal digitsOf refusalLine whereWords placeWords atByte refusalRow faultRow ruleRow refusalWords faultWords ruleWords placed faultPlaced entryOf entryAt entryWords fieldWords namedWords refusalField faultField ruleField
 small-bad-items = refl

@@ -11,17 +11,16 @@ use Rattle.page.specs.declared.Item.{Item}
 use Rattle.base.specs.Tests.{between}
 use Rattle.base.specs.Checks.{Check, fine, refused, need, firstFault}
 use Rattle.contents.specs.declared.Fault.{Fault}
-use Rattle.contents.specs.declared.Fault.the-variants.{BadEvent, BadItem, BadMessage, TextLeft}
+use Rattle.contents.specs.declared.Fault.the-variants.{BadEvent, BadMessage, TextLeft}
 use Rattle.contents.specs.declared.ItemRule.{ItemRule}
 use Rattle.contents.specs.declared.Counts.{Counts}
 use Rattle.contents.specs.Limits.{eventSize, itemSize, messageSize, longest}
-use Rattle.contents.specs.Replies.{ruleRow}
 use Rattle.contents.specs.Bytes.{u16At}
 use Rattle.contents.specs.Contents.{itemsAt}
 use Rattle.items.specs.declared.walk.Walk.{Walk}
 use Rattle.items.specs.declared.walk.Walk.the-variants.{Actions, Stop}
 use Rattle.items.specs.declared.Setting.{Setting}
-use Rattle.items.specs.Items.{itemRight, withinOf, ownOf, next, inside, onward, onFrom, walkOf, walked, outset, walkFault, itemsRight}
+use Rattle.items.specs.Items.{itemRight, withinOf, ownOf, next, inside, onward, brokenAt, onFrom, walkOf, walked, outset, walkFault, itemsRight}
 use Rattle.items.specs.Ranged.{blank}
 use Rattle.items.proofs.Walked.{right-item, within-left}
 use Rattle.messages.specs.Messages.{messageRight, messagesRight}
@@ -104,7 +103,7 @@ pub record ItemFault (c : Counts) (at : ℕ) (is : List Item) (h : Setting) (n :
   pub p : ℕ
   pub below : p < length is
   pub rule : ItemRule
-  pub place : x ≡ BadItem rule (at + itemSize * p + ruleRow rule .place)
+  pub place : x ≡ brokenAt (at + itemSize * p) rule
   pub setting : Setting
   pub left : ℕ
   pub actions : ℕ
@@ -112,13 +111,13 @@ pub record ItemFault (c : Counts) (at : ℕ) (is : List Item) (h : Setting) (n :
   pub wrong : itemRight (getD is p blank) c setting left actions ≡ refused rule
 
 -- the same field, its item's first byte told otherwise
-same-field : (x : Fault) (r : ItemRule) (a b : ℕ) → x ≡ BadItem r (a + ruleRow r .place) → a ≡ b → x ≡ BadItem r (b + ruleRow r .place)
-same-field x r a b e s = e ∙ ap (λ (k : ℕ). BadItem r (k + ruleRow r .place)) s
+same-field : (x : Fault) (r : ItemRule) (a b : ℕ) → x ≡ brokenAt a r → a ≡ b → x ≡ brokenAt b r
+same-field x r a b e s = e ∙ ap (λ (k : ℕ). brokenAt k r) s
 
 module _ (c : Counts) (at : ℕ) (i : Item) (is : List Item) (h : Setting) (n : ℕ) (x : Fault) where
-  item-here : (r : ItemRule) → itemRight i c h (length is) n ≡ refused r → Stop (BadItem r (at + ruleRow r .place)) ≡ Stop x → ItemFault c at (i ∷ is) h n x
+  item-here : (r : ItemRule) → itemRight i c h (length is) n ≡ refused r → Stop (brokenAt at r) ≡ Stop x → ItemFault c at (i ∷ is) h n x
   item-here r wrong e =
-      let q : x ≡ BadItem r (at + ruleRow r .place) = cc in
+      let q : x ≡ brokenAt at r = cc in
       let s : at ≡ at + itemSize * 0 = omega arith in
       record { p = 0; below = omega arith; rule = r; place = same-field x r _ _ q s; setting = h; left = length is; actions = n; stands = here; wrong = wrong }
 

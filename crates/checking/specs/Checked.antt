@@ -1,7 +1,6 @@
 -- The line that `check` prints for a file.
 use Prim.Native.Nat.{ℕ}
 use mathlib.Core.Path.{_≡_}
-use mathlib.Core.Bool.{Bool, true, false}
 use mathlib.Core.List.{List, [], _∷_, _++_}
 use Rattle.base.specs.Checks.{Check, fine, refused, isFine}
 use Rattle.ascii.specs.Words.{space, newline}

@@ -19,7 +19,7 @@ rule-numbered rule.Nesting = (omega arith, omega arith)
 rule-numbered rule.Message = (omega arith, omega arith)
 rule-numbered rule.Actions = (omega arith, omega arith)
 
-pub field-within : (r : ItemRule) → ruleRow r .place < itemSize
+pub field-within : (r : ItemRule) → ruleRow r .offset < itemSize
 unfolding ruleRow
 field-within rule.Kind = omega arith
 field-within rule.Synchrony = omega arith

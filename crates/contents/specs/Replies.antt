@@ -7,19 +7,20 @@ use Rattle.contents.specs.declared.ItemRule.the-variants as rule
 use Rattle.contents.specs.declared.Verdict.{Verdict}
 use Rattle.contents.specs.declared.Verdict.the-variants.{Fine, Refused}
 use Rattle.contents.specs.declared.Reply.{Reply}
+use Rattle.contents.specs.declared.RuleRow.{RuleRow}
 
 -- The rules of an item, in the order in which they are checked: rule, number, and the offset of its field in the item. "Refusals: 20 to 27 in that order, where 7 stood"; "the place of
--- the field instead of the item (for nesting the field last, for the number of actions still the item's first byte)"
-unfoldable pub ruleRow : ItemRule → Reply
-ruleRow rule.Kind = record { number = 20; place = 0 }
-ruleRow rule.Synchrony = record { number = 21; place = 1 }
-ruleRow rule.ErrorWord = record { number = 21; place = 2 }
-ruleRow rule.Part = record { number = 22; place = 3 }
-ruleRow rule.Delay = record { number = 23; place = 4 }
-ruleRow rule.Event = record { number = 24; place = 8 }
-ruleRow rule.Nesting = record { number = 25; place = 10 }
-ruleRow rule.Message = record { number = 26; place = 10 }
-ruleRow rule.Actions = record { number = 27; place = 0 }
+-- the field instead of the item (for nesting the field last, for the number of actions still the item's first byte)"; "21 at the synchrony byte where that is wrong, else at the error byte"
+unfoldable pub ruleRow : ItemRule → RuleRow
+ruleRow rule.Kind = record { number = 20; offset = 0 }
+ruleRow rule.Synchrony = record { number = 21; offset = 1 }
+ruleRow rule.ErrorWord = record { number = 21; offset = 2 }
+ruleRow rule.Part = record { number = 22; offset = 3 }
+ruleRow rule.Delay = record { number = 23; offset = 4 }
+ruleRow rule.Event = record { number = 24; offset = 8 }
+ruleRow rule.Nesting = record { number = 25; offset = 10 }
+ruleRow rule.Message = record { number = 26; offset = 10 }
+ruleRow rule.Actions = record { number = 27; offset = 0 }
 
 -- "No. | When | Place", row by row
 unfoldable pub faultRow : Fault → Reply

@@ -64,6 +64,12 @@ pub enum Verdict {
     Refused(Fault),
 }
 
+// A row of the table of an item's rules: the number, and where the rule's field stands in the item.
+pub struct RuleRow {
+    pub number: usize,
+    pub offset: usize,
+}
+
 // The reply table's number and place.
 pub struct Reply {
     pub number: usize,

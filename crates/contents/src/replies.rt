@@ -4,6 +4,7 @@ ghost use Rattle.contents.specs.Replies.{ruleRow, faultRow, replyOf};
 use crate::Fault;
 use crate::ItemRule;
 use crate::Reply;
+use crate::RuleRow;
 use crate::Verdict;
 
 fn row(number: usize, place: usize) -> Reply
@@ -12,20 +13,26 @@ fn row(number: usize, place: usize) -> Reply
     Reply { number, place }
 }
 
+fn numbered(number: usize, offset: usize) -> RuleRow
+    ensures { λ r. ⌜ r ≡ record { number = number; offset = offset } ⌝ }
+{
+    RuleRow { number, offset }
+}
+
 // An item's rule: its number, and where its field stands in the item.
-pub fn rule_row(r: ItemRule) -> Reply
+pub fn rule_row(r: ItemRule) -> RuleRow
     ensures { λ out. ⌜ out ≡ ruleRow r ⌝ }
 {
     match r {
-        ItemRule::Kind => row(20, 0),
-        ItemRule::Synchrony => row(21, 1),
-        ItemRule::ErrorWord => row(21, 2),
-        ItemRule::Part => row(22, 3),
-        ItemRule::Delay => row(23, 4),
-        ItemRule::Event => row(24, 8),
-        ItemRule::Nesting => row(25, 10),
-        ItemRule::Message => row(26, 10),
-        ItemRule::Actions => row(27, 0),
+        ItemRule::Kind => numbered(20, 0),
+        ItemRule::Synchrony => numbered(21, 1),
+        ItemRule::ErrorWord => numbered(21, 2),
+        ItemRule::Part => numbered(22, 3),
+        ItemRule::Delay => numbered(23, 4),
+        ItemRule::Event => numbered(24, 8),
+        ItemRule::Nesting => numbered(25, 10),
+        ItemRule::Message => numbered(26, 10),
+        ItemRule::Actions => numbered(27, 0),
     }
 }
 

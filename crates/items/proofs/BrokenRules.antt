@@ -6,7 +6,7 @@ use mathlib.Core.List.{List, [], _∷_}
 use Prim.Native.Nat.{ℕ}
 use Rattle.page.specs.declared.Item.{Item}
 use Rattle.base.specs.Tests.{every}
-use Rattle.base.specs.Checks.{Check, fine, refused, need, firstFault, isFine}
+use Rattle.base.specs.Checks.{Check, need, firstFault, isFine}
 use Rattle.base.proofs.TestLaws.{told-true, told-false, every-both}
 use Rattle.base.proofs.CheckLaws.{fine-end, fine-more}
 use Rattle.contents.specs.declared.ItemRule.{ItemRule}

@@ -17,8 +17,8 @@ use Rattle.contents.specs.Limits.{itemSize, mostActions}
 use Rattle.items.specs.declared.walk.Walk.{Walk}
 use Rattle.items.specs.declared.walk.Walk.the-variants.{Actions, Stop}
 use Rattle.items.specs.declared.Setting.{Setting}
-use Rattle.items.specs.Items.{itemRight, withinOf, ownOf, next, inside, onward, onFrom, walkOf, walked}
-use Rattle.items.specs.Inner.{brokenBy, faultAt}
+use Rattle.items.specs.Items.{itemRight, withinOf, ownOf, next, inside, onward, brokenAt, onFrom, walkOf, walked}
+use Rattle.items.specs.Inner.{brokenBy}
 use Rattle.items.proofs.Walked.{right-item, within-left, walk-walked, walked-few}
 
 -- ---- an action and a group
@@ -51,8 +51,8 @@ onward-same v (Stop x) a b e p = rw e
 
 -- ---- a wrong item stops the walk
 
-stop-here : (v : Check ItemRule) (at : ℕ) (w : Walk) → isFine v ≡ false → onFrom v at w ≡ Stop (faultAt at v)
-unfolding isFine onFrom faultAt brokenBy
+stop-here : (v : Check ItemRule) (at : ℕ) (w : Walk) → isFine v ≡ false → onFrom v at w ≡ Stop (brokenAt at (brokenBy v))
+unfolding isFine onFrom brokenBy
 stop-here fine at w e = let z : _≡_ {A = ℕ} 0 1 = cc in absurd (omega arith)
 stop-here (refused r) at w e = refl
 
@@ -106,7 +106,7 @@ module _ (c : Counts) (at : ℕ) (i : Item) (is : List Item) (h : Setting) (n : 
       (onward-same _ _ _ _ (bound c (length is) (length (take (withinOf i) is)) (at + itemSize) (take (withinOf i) is) _ _ (take-few (length is) (withinOf i) is (omega arith) l) (omega arith))
       (λ m. bound c (length is) (length (drop (withinOf i) is)) _ (drop (withinOf i) is) _ m (drop-few (length is) (withinOf i) is (omega arith)) (omega arith)))
 
-  pub walked-wrong : isFine (itemRight i c h (length is) n) ≡ false → walked c at (i ∷ is) h n ≡ Stop (faultAt at (itemRight i c h (length is) n))
+  pub walked-wrong : isFine (itemRight i c h (length is) n) ≡ false → walked c at (i ∷ is) h n ≡ Stop (brokenAt at (brokenBy (itemRight i c h (length is) n)))
   unfolding walked walkOf
   walked-wrong e = stop-here (itemRight i c h (length is) n) at _ e
 

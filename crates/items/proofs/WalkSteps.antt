@@ -15,7 +15,7 @@ use Rattle.base.proofs.CheckLaws.{fine-told}
 use Rattle.contents.specs.declared.Fault.{Fault}
 use Rattle.contents.specs.declared.Fault.the-variants.{BadItem}
 use Rattle.contents.specs.declared.ItemRule.{ItemRule}
-use Rattle.contents.specs.declared.Reply.{Reply}
+use Rattle.contents.specs.declared.RuleRow.{RuleRow}
 use Rattle.contents.specs.declared.Counts.{Counts}
 use Rattle.contents.specs.Limits.{itemSize, mostActions}
 use Rattle.contents.specs.Replies.{ruleRow}
@@ -23,8 +23,8 @@ use Rattle.items.specs.declared.walk.Walk.{Walk}
 use Rattle.items.specs.declared.walk.Walk.the-variants.{Actions, Stop}
 use Rattle.items.specs.declared.Setting.{Setting}
 use Rattle.items.specs.declared.walk.Step.{Step}
-use Rattle.items.specs.Items.{itemAt, itemsFrom, itemRight, withinOf, ownOf, next, inside, onward, walked}
-use Rattle.items.specs.Inner.{stepOf, refusal, brokenBy, faultAt, judged, StepFits, Room}
+use Rattle.items.specs.Items.{itemAt, itemsFrom, itemRight, withinOf, ownOf, next, inside, onward, brokenAt, walked}
+use Rattle.items.specs.Inner.{stepOf, refusal, brokenBy, judged, StepFits, Room}
 use Rattle.items.proofs.Decoded.{items-length, items-none, items-more, items-take, items-drop}
 use Rattle.contents.proofs.RuleRows.{field-within}
 use Rattle.items.proofs.Walked.{right-item, within-left, own-room}
@@ -100,12 +100,11 @@ judged-step s i c h left n e p = e ∙ rw p
 
 -- ---- the fault of an item that is wrong
 
-pub fault-told : (i j : Item) (c : Counts) (h : Setting) (at left n : ℕ) (r : ItemRule) (row : Reply) → i ≡ j → r ≡ brokenBy (itemRight i c h left n) → row ≡ ruleRow r
-    → BadItem r (at + row .place) ≡ faultAt at (itemRight j c h left n)
-unfolding faultAt
+pub fault-told : (i j : Item) (c : Counts) (h : Setting) (at left n : ℕ) (r : ItemRule) (row : RuleRow) → i ≡ j → r ≡ brokenBy (itemRight i c h left n) → row ≡ ruleRow r
+    → BadItem r (at + row .offset) ≡ brokenAt at (brokenBy (itemRight j c h left n))
 fault-told i j c h at left n r row same e p = rw (← same, ← e, p)
 
-pub field-small : (r : ItemRule) (row : Reply) → row ≡ ruleRow r → row .place < itemSize
+pub field-small : (r : ItemRule) (row : RuleRow) → row ≡ ruleRow r → row .offset < itemSize
 field-small r row p = rw p (field-within r)
 
 pub ruleset wrongs = (fault-told, needs)
@@ -136,7 +135,7 @@ module _ (f : List ℕ) (c : Counts) (at count : ℕ) (h : Setting) (n : ℕ) (s
       rw (items-more f at count some)
       (step ∙ rw (items-take f (at + itemSize) (count - 1) (withinOf here) l, items-drop f (at + itemSize) (count - 1) (withinOf here) l))
 
-  found-wrong : isFine (itemRight here c h (count - 1) n) ≡ false → found f c at count h n ≡ Stop (faultAt at (itemRight here c h (count - 1) n))
+  found-wrong : isFine (itemRight here c h (count - 1) n) ≡ false → found f c at count h n ≡ Stop (brokenAt at (brokenBy (itemRight here c h (count - 1) n)))
   found-wrong e =
       let stop = walked-wrong c at here (itemsFrom f (at + itemSize) (count - 1)) h n (rw rest-length e) in
       rw (items-more f at count some) (rw rest-length at stop)
@@ -146,7 +145,7 @@ module _ (f : List ℕ) (c : Counts) (at count depth event part n : ℕ) (W : Wa
   abbrev around : Setting
   around = record { depth = depth; event = event; part = part }
 
-  pub walk-stop : (x : Fault) → not (s .right) ≡ true → x ≡ faultAt at (itemRight (itemAt f at) c around (count - 1) n) → found f c at count around n ≡ W → Stop x ≡ W
+  pub walk-stop : (x : Fault) → not (s .right) ≡ true → x ≡ brokenAt at (brokenBy (itemRight (itemAt f at) c around (count - 1) n)) → found f c at count around n ≡ W → Stop x ≡ W
   walk-stop x p e q = ap Stop e ∙ sym (found-wrong f c at count around n some (told-false (s .right) _ (verdict s _ c around (count - 1) n es) p)) ∙ q
 
   module _ (w : Walk) (p : not (s .right) ≡ false) (ew : w ≡ found f c (at + itemSize) (s .body) (record { depth = depth + 1; event = 0; part = s .part }) (s .actions)) where

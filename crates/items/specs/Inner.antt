@@ -6,13 +6,10 @@ use mathlib.Core.List.{[], _∷_}
 use Rattle.page.specs.declared.Item.{Item}
 use Rattle.base.specs.Tests.{pick, every}
 use Rattle.base.specs.Checks.{Check, fine, refused, isFine}
-use Rattle.contents.specs.declared.Fault.{Fault}
-use Rattle.contents.specs.declared.Fault.the-variants.{BadItem}
 use Rattle.contents.specs.declared.ItemRule.{ItemRule}
 use Rattle.contents.specs.declared.ItemRule.the-variants as rule
 use Rattle.contents.specs.declared.Counts.{Counts}
 use Rattle.contents.specs.Limits.{mostItems, mostActions, itemSize}
-use Rattle.contents.specs.Replies.{ruleRow}
 use Rattle.items.specs.declared.Setting.{Setting}
 use Rattle.items.specs.declared.walk.Step.{Step}
 use Rattle.items.specs.Items.{kindRight, synchronyRight, errorRight, partRight, delayRight, eventRight, nestingRight, numberRight, actionsRight, itemRight, withinOf, ownOf}
@@ -28,10 +25,6 @@ standingRight i c h left actions = every (eventRight i c h ∷ nestingRight i h 
 unfoldable pub brokenBy : Check ItemRule → ItemRule
 brokenBy fine = rule.Actions
 brokenBy (refused r) = r
-
--- Its fault, where it stands at the byte at.
-unfoldable pub faultAt : (at : ℕ) → Check ItemRule → Fault
-faultAt at v = BadItem (brokenBy v) (at + ruleRow (brokenBy v) .place)
 
 -- What the walk goes on with after an item that is right, and the step that stands for a wrong one.
 unfoldable pub stepOf : Item → ℕ → ℕ → Step

@@ -123,10 +123,14 @@ unfoldable pub onward : Walk → (ℕ → Walk) → Walk
 onward (Actions n) more = more n
 onward (Stop x) more = Stop x
 
--- On from an item at the byte at; from a wrong one no further: the rule that it breaks, at "the place of the field".
+-- An item at the byte at that breaks a rule: at "the place of the field".
+abbrev pub brokenAt : (at : ℕ) → ItemRule → Fault
+brokenAt at r = BadItem r (at + ruleRow r .offset)
+
+-- On from an item at the byte at; from a wrong one no further.
 unfoldable pub onFrom : Check ItemRule → (at : ℕ) → Walk → Walk
 onFrom fine at w = w
-onFrom (refused r) at w = Stop (BadItem r (at + ruleRow r .place))
+onFrom (refused r) at w = Stop (brokenAt at r)
 
 -- Each item, then those within it, then those after it: how many actions there are, or the fault of the first wrong one. The first of them stands at the byte at;
 -- the first number only bounds the recursion, and is at least their count.

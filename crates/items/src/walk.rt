@@ -7,8 +7,8 @@ ghost use Rattle.contents.specs.Limits.{itemSize, mostActions};
 ghost use Rattle.contents.specs.Replies.{verdictOf};
 ghost use Rattle.contents.specs.Contents.{itemsAt};
 ghost use Rattle.contents.specs.Inner.{Sized};
-ghost use Rattle.items.specs.Items.{itemAt, itemsFrom, itemRight, walked, itemsRight};
-ghost use Rattle.items.specs.Inner.{stepOf, refusal, judged, faultAt, StepFits, Room, Walkable};
+ghost use Rattle.items.specs.Items.{itemAt, itemsFrom, itemRight, brokenAt, walked, itemsRight};
+ghost use Rattle.items.specs.Inner.{stepOf, refusal, judged, brokenBy, StepFits, Room, Walkable};
 use crate::Setting;
 use crate::broken::rule_broken;
 use crate::item_at;
@@ -90,12 +90,12 @@ fn judge(file: &[u8], c: Counts, at: usize, h: Setting, left: usize, actions: us
 // The fault of a wrong item at the byte `at`: the first rule that it breaks, at the rule's field.
 fn fault_at(file: &[u8], c: Counts, at: usize, h: Setting, left: usize, actions: usize) -> Fault
     requires { ⌜ at + itemSize ≤ length (now file) ⌝ }
-    ensures { λ r. ⌜ r ≡ faultAt at (itemRight (itemAt (now (file .entry)) at) c h left actions) ⌝ }
+    ensures { λ r. ⌜ r ≡ brokenAt at (brokenBy (itemRight (itemAt (now (file .entry)) at) c h left actions)) ⌝ }
 {
     let i = item_at(file, at);
     let rule = rule_broken(i, c, h, left, actions);
-    let offset = rule_row(rule).place;
-    Fault::BadItem(rule, at + offset)
+    let place = at + rule_row(rule).offset;
+    Fault::BadItem(rule, place)
 }
 
 // The `count` items from the byte `at` on, and all within them. The items of a group are fewer than those of what holds it.

@@ -20,7 +20,7 @@ use Rattle.session.specs.declared.Refusal.{Refusal}
 use Rattle.session.specs.declared.Refusal.the-variants.{File}
 use Rattle.refusals.specs.declared.entries.Entry.{Entry}
 use Rattle.refusals.specs.declared.entries.Entry.the-variants.{Nowhere, Contents, Event, Item, Message}
-use Rattle.refusals.specs.Entries.{fieldWords, fieldCount, entryWords, entryRoom, ruleField, ruleRoom, faultField, fieldOf, namedWords}
+use Rattle.refusals.specs.Entries.{fieldWords, fieldCount, entryWords, entryRoom, ruleField, ruleRoom, faultField, refusalField, namedWords}
 
 -- ---- a field of the contents
 
@@ -77,7 +77,7 @@ module _ (o : List ℕ) (at : ℕ) (room : at + ruleRoom ≤ length o) where
   pub fault-none : (x y : Fault) → x ≡ y → faultField y ≡ [] → Laid o at (faultField x) o at
   fault-none x y e p = rw (e, p) (laid-nothing o at (omega arith))
 
-  pub refusal-none : (x y : Refusal) → x ≡ y → fieldOf y ≡ [] → Laid o at (fieldOf x) o at
+  pub refusal-none : (x y : Refusal) → x ≡ y → refusalField y ≡ [] → Laid o at (refusalField x) o at
   refusal-none x y e p = rw (e, p) (laid-nothing o at (omega arith))
 
 module _ (o m : List ℕ) (at r : ℕ) where
@@ -85,11 +85,11 @@ module _ (o m : List ℕ) (at r : ℕ) where
   unfolding faultField
   fault-item x rule place e laid = rw e laid
 
-  pub refusal-file : (x : Refusal) (f : Fault) → x ≡ File f → Laid o at (faultField f) m r → Laid o at (fieldOf x) m r
-  unfolding fieldOf
+  pub refusal-file : (x : Refusal) (f : Fault) → x ≡ File f → Laid o at (faultField f) m r → Laid o at (refusalField x) m r
+  unfolding refusalField
   refusal-file x f e laid = rw e laid
 
-pub lay-named : (o m n : List ℕ) (at a r : ℕ) (e : Entry) (x : Refusal) → Laid o at (entryWords e) m a → Laid m a (fieldOf x) n r → Laid o at (namedWords e x) n r
+pub lay-named : (o m n : List ℕ) (at a r : ℕ) (e : Entry) (x : Refusal) → Laid o at (entryWords e) m a → Laid m a (refusalField x) n r → Laid o at (namedWords e x) n r
 unfolding namedWords
 lay-named o m n at a r e x p q = laid-join o m n _ _ at a r p q
 

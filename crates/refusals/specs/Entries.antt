@@ -64,7 +64,7 @@ entryWords (Message n) = bytesOf ", message " ++ decimal n
 abbrev pub entryRoom : ℕ
 entryRoom = 30
 
--- "Item: 12 bytes: kind, synchrony, error word, part, delay (u32), event (u16), last (u16)." The field that a rule is about, and room for its name; the number of actions is about none.
+-- "kind .., synchrony .., error word .., part .., delay .., event .., last". The field that a rule is about, and room for its name; the number of actions is about none.
 unfoldable pub ruleField : ItemRule → List ℕ
 ruleField rule.Kind = bytesOf ", kind"
 ruleField rule.Synchrony = bytesOf ", synchrony"
@@ -91,21 +91,21 @@ faultField (BadMessage at) = []
 faultField TextLeft = []
 faultField NoMessage = []
 
-unfoldable pub fieldOf : Refusal → List ℕ
-fieldOf MemoryShort = []
-fieldOf RoomShort = []
-fieldOf (File x) = faultField x
-fieldOf BadTempo = []
-fieldOf BadGrace = []
-fieldOf NoSession = []
-fieldOf NoEvent = []
-fieldOf NotAfter = []
-fieldOf BadMillis = []
-fieldOf ClockFull = []
+unfoldable pub refusalField : Refusal → List ℕ
+refusalField MemoryShort = []
+refusalField RoomShort = []
+refusalField (File x) = faultField x
+refusalField BadTempo = []
+refusalField BadGrace = []
+refusalField NoSession = []
+refusalField NoEvent = []
+refusalField NotAfter = []
+refusalField BadMillis = []
+refusalField ClockFull = []
 
 -- An entry and the field of it that is at fault, as `, item 6, delay`, and room for both.
 unfoldable pub namedWords : Entry → Refusal → List ℕ
-namedWords e x = entryWords e ++ fieldOf x
+namedWords e x = entryWords e ++ refusalField x
 
 abbrev pub namedRoom : ℕ
 namedRoom = 42

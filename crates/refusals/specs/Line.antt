@@ -1,4 +1,4 @@
--- The line that tells people of a refusal, as `old.bin: refused 23 at byte 120, item 6, delay: an item's delay, above 5,040,000`.
+-- The line that tells people of a refusal, as `old.bin: refused 23 at byte 120, item 6, delay: an item's delay, above 5,040,000 grains (1,000 beats)`.
 use Prim.Native.Nat.{ℕ}
 use mathlib.Core.List.{List, [], _∷_, _++_}
 use Rattle.base.specs.Tests.{pick}

@@ -1,5 +1,5 @@
 -- The lines that tell people of a text that is refused: for a byte of its own, as `new.txt:12:7: refused 16: text against the grammar`; or for what its file would be, as
--- `new.txt: refused 23 at byte 120 of the file it would make, item 6, delay: an item's delay, above 5,040,000`.
+-- `new.txt: refused 23 at byte 120 of the file it would make, item 6, delay: an item's delay, above 5,040,000 grains (1,000 beats)`.
 use Prim.Native.Nat.{ℕ}
 use mathlib.Core.List.{List, [], _∷_, _++_}
 use Rattle.ascii.specs.Words.{newline}

@@ -4,7 +4,7 @@ ghost use mathlib.Core.List.{[]};
 ghost use Prim.Native.Nat.{_+_, _≤_};
 ghost use lib.ListN.{length, getD};
 ghost use Rattle.ascii.specs.Laying.{Laid};
-ghost use Rattle.refusals.specs.Entries.{entryAt, entryOf, entryWords, entryRoom, fieldWords, ruleField, ruleRoom, faultField, fieldOf, namedWords, namedRoom};
+ghost use Rattle.refusals.specs.Entries.{entryAt, entryOf, entryWords, entryRoom, fieldWords, ruleField, ruleRoom, faultField, refusalField, namedWords, namedRoom};
 use ascii::put_bytes;
 use contents::Counts;
 use contents::Fault;
@@ -132,9 +132,9 @@ fn put_fault_field(out: &mut [u8], at: usize, x: Fault) -> usize
     }
 }
 
-fn put_item_field(out: &mut [u8], at: usize, x: Refusal) -> usize
+fn put_refusal_field(out: &mut [u8], at: usize, x: Refusal) -> usize
     requires { ⌜ at + ruleRoom ≤ length (now out) ⌝ }
-    ensures { λ end. ⌜ Laid (now (out .entry)) at (fieldOf x) (now (out .exit)) end × (end ≤ at + ruleRoom) ⌝ }
+    ensures { λ end. ⌜ Laid (now (out .entry)) at (refusalField x) (now (out .exit)) end × (end ≤ at + ruleRoom) ⌝ }
 {
     match x {
         Refusal::MemoryShort => at,
@@ -156,5 +156,5 @@ pub fn put_named(out: &mut [u8], at: usize, e: Entry, x: Refusal) -> usize
     ensures { λ r. ⌜ Laid (now (out .entry)) at (namedWords e x) (now (out .exit)) r × (r ≤ at + namedRoom) ⌝ }
 {
     let at = put_entry(out, at, e);
-    put_item_field(out, at, x)
+    put_refusal_field(out, at, x)
 }

@@ -8,7 +8,7 @@ use lib.ListN.{length, take, drop}
 use Rattle.page.specs.declared.Item.{Item}
 use Rattle.base.specs.Checks.{Check, fine, refused, need, firstFault}
 use Rattle.contents.specs.declared.Fault.{Fault}
-use Rattle.contents.specs.declared.Fault.the-variants.{BadCount, BadEvent, BadItem, BadMessage, TextLeft}
+use Rattle.contents.specs.declared.Fault.the-variants.{BadCount, BadEvent, BadMessage, TextLeft}
 use Rattle.contents.specs.declared.ItemRule.{ItemRule}
 use Rattle.contents.specs.declared.ItemRule.the-variants as rule
 use Rattle.contents.specs.declared.Counts.{Counts}
@@ -19,7 +19,7 @@ use Rattle.contents.specs.Replies.{ruleRow, faultRow}
 use Rattle.items.specs.declared.walk.Walk.{Walk}
 use Rattle.items.specs.declared.walk.Walk.the-variants.{Actions, Stop}
 use Rattle.items.specs.declared.Setting.{Setting}
-use Rattle.items.specs.Items.{kindRight, synchronyRight, errorRight, partRight, delayRight, eventRight, nestingRight, numberRight, actionsRight, itemRight, withinOf, ownOf, next, inside, onward, onFrom, walkOf, walked, outset, walkFault, itemsRight}
+use Rattle.items.specs.Items.{kindRight, synchronyRight, errorRight, partRight, delayRight, eventRight, nestingRight, numberRight, actionsRight, itemRight, withinOf, ownOf, next, inside, onward, brokenAt, onFrom, walkOf, walked, outset, walkFault, itemsRight}
 use Rattle.messages.specs.Messages.{messagesRight}
 use Rattle.score.specs.Events.{eventsRight}
 use Rattle.score.specs.Piece.{decode}
@@ -118,7 +118,7 @@ module _ (P : ℕ → Type 0) where
   walk-on : (v : Check ItemRule) (at : ℕ) (w : Walk) → Finds (ToldRule P) v → Finds (Told P) (walkFault w) → Finds (Told P) (walkFault (onFrom v at w))
   unfolding onFrom walkFault faultRow
   walk-on fine at w no-fault h = h
-  walk-on (refused r) at w (some-fault p) h = some-fault {x = BadItem r (at + ruleRow r .place)} p
+  walk-on (refused r) at w (some-fault p) h = some-fault {x = brokenAt at r} p
 
   walk-of : (x : ℕ) (c : Counts) (at : ℕ) {is : List Item} (h : Setting) (n : ℕ) → Breaks c is → Finds (Told P) (walkFault (walkOf x c at is h n))
   unfolding walkOf walkFault

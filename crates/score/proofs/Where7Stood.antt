@@ -1,6 +1,6 @@
 -- The file check accepts what it accepted before document 02 (vi), gives 20 to 27 within the same item where it gave 7, and is the same everywhere else. By recursion along the walk of the
 -- items, in which both checks go the same way until the first wrong one. Assumes nothing.
-use mathlib.Core.Path.{_≡_, refl, sym, ap, _∙_}
+use mathlib.Core.Path.{_≡_, refl, _∙_}
 use mathlib.Core.Bool.{Bool, true, false}
 use mathlib.Core.List.{List, [], _∷_}
 use Prim.Native.Nat.{ℕ, zero, suc, _+_, _*_}
@@ -18,16 +18,16 @@ use Rattle.contents.specs.declared.Counts.{Counts}
 use Rattle.contents.specs.declared.Reply.{Reply}
 use Rattle.contents.specs.Limits.{itemSize}
 use Rattle.contents.specs.Contents.{countsOf, itemsAt}
-use Rattle.contents.specs.Replies.{ruleRow, faultRow, replyOf, verdictOf}
+use Rattle.contents.specs.Replies.{faultRow, replyOf, verdictOf}
 use Rattle.contents.proofs.RuleRows.{rule-numbered, field-within}
 use Rattle.items.specs.declared.walk.Walk.{Walk}
 use Rattle.items.specs.declared.walk.Walk.the-variants.{Actions, Stop}
 use Rattle.items.specs.declared.Setting.{Setting}
-use Rattle.items.specs.Items.{isAction, synchronyRight, errorRight, itemRight, withinOf, ownOf, next, inside, onward, onFrom, walkOf, walked, outset, walkFault, itemsRight}
+use Rattle.items.specs.Items.{isAction, synchronyRight, errorRight, itemRight, withinOf, ownOf, next, inside, onward, brokenAt, onFrom, walkOf, walked, outset, walkFault, itemsRight}
 use Rattle.score.specs.Piece.{decode}
 use Rattle.score.specs.File.{bodiesRight, checked}
 use Rattle.score.specs.LookUp.{labelReply}
-use Rattle.score.specs.Before.{wordsBefore, rightBefore, WalkBefore, counted, wrongAt, onwardBefore, walkBefore, told7, itemsBefore, bodiesBefore, checkedBefore, labelBefore, Split, accepted, kept, split}
+use Rattle.score.specs.Before.{wordsBefore, rightBefore, WalkBefore, counted, wrongAt, onwardBefore, walkBefore, told7, itemsBefore, bodiesBefore, checkedBefore, Split, accepted, kept, split}
 
 -- ---- one item is right when it was
 
@@ -54,7 +54,7 @@ right-when-before i c h left n =
 
 data Alike : WalkBefore → Walk → Type 0 where
   both-count : {n : ℕ} → Alike (counted n) (Actions n)
-  both-stop : {r : ItemRule} {at : ℕ} → Alike (wrongAt at) (Stop (BadItem r (at + ruleRow r .place)))
+  both-stop : {r : ItemRule} {at : ℕ} → Alike (wrongAt at) (Stop (brokenAt at r))
 
 alike-onward : {v : WalkBefore} {w : Walk} (more : ℕ → WalkBefore) (on : ℕ → Walk) → Alike v w → ((m : ℕ) → Alike (more m) (on m)) → Alike (onwardBefore v more) (onward w on)
 unfolding onwardBefore onward
@@ -120,7 +120,7 @@ same (refused x) = kept (no-7 x)
 alike-split : {v : WalkBefore} {w : Walk} → Alike v w → Split faultRow (told7 v) (walkFault w)
 unfolding told7 walkFault faultRow
 alike-split both-count = accepted
-alike-split (both-stop {r} {at}) = let n = rule-numbered r in let p = field-within r in split {x = BadItem r (at + ruleRow r .place)} {b = at} (n .0) (n .1) (omega arith) (omega arith)
+alike-split (both-stop {r} {at}) = let n = rule-numbered r in let p = field-within r in split {x = brokenAt at r} {b = at} (n .0) (n .1) (omega arith) (omega arith)
 
 items-split : (c : Counts) (is : List Item) → Split faultRow (itemsBefore c is) (itemsRight c is)
 unfolding itemsBefore itemsRight walked
@@ -139,8 +139,9 @@ fields-only f =
     (split-first faultRow _ _ _ _ (same _)
     (split-first faultRow _ _ _ _ (same _) (split-first faultRow _ _ _ _ (bodies-split f (countsOf f)) (split-none faultRow))))
 
-pub look-ups-too : (f : List ℕ) (n : ℕ) → Split faultRow (labelBefore f n) (labelReply f n)
-unfolding labelBefore labelReply
+-- "Text look-up: the file check, 15."
+pub look-ups-too : (f : List ℕ) (n : ℕ) → Split faultRow (firstFault (checkedBefore f ∷ need (ltb n (countsOf f .messages)) (faultRow NoMessage) ∷ [])) (labelReply f n)
+unfolding labelReply
 look-ups-too f n = split-first faultRow _ _ _ _ (fields-only f) (split-first faultRow _ _ _ _ (split-need faultRow _ NoMessage (no-7 NoMessage)) (split-none faultRow))
 
 -- ---- what is accepted

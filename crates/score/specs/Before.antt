@@ -5,11 +5,11 @@ use mathlib.Core.Path.{_≡_}
 use mathlib.Core.Bool.{Bool}
 use mathlib.Core.List.{List, [], _∷_}
 use lib.ListN.{length, take, drop}
-use lib.Dec.{leb, ltb, eqb}
+use lib.Dec.{leb, eqb}
 use Rattle.page.specs.declared.Item.{Item}
 use Rattle.base.specs.Tests.{pick, every}
 use Rattle.base.specs.Checks.{Check, fine, refused, need, firstFault, renamed}
-use Rattle.contents.specs.declared.Fault.the-variants.{FileShort, NoMessage}
+use Rattle.contents.specs.declared.Fault.the-variants.{FileShort}
 use Rattle.contents.specs.declared.Counts.{Counts}
 use Rattle.contents.specs.declared.Reply.{Reply}
 use Rattle.contents.specs.Limits.{contentsSize, itemSize}
@@ -95,10 +95,6 @@ checkedBefore f =
     ∷ bodiesBefore f c
     ∷ []
     )
-
--- "Text look-up: the file check, 15."
-unfoldable pub labelBefore : List ℕ → ℕ → Check Reply
-labelBefore f n = firstFault (checkedBefore f ∷ need (ltb n (countsOf f .messages)) (faultRow NoMessage) ∷ [])
 
 -- ---- what became of a reply
 

@@ -95,10 +95,10 @@ module _ (f : List ℕ) (c : Counts) (same : c .events ≡ eventsFolded f) where
       let q : (eventsAt + eventSize * k - eventsAt) / eventSize ≡ k = omega arith in
       rw (le-ltb (eventsAt + eventSize * k) eventsAt (omega arith), lt-ltb (eventsAt + eventSize * k) (eventsAt + eventSize * eventsFolded f) (omega arith), q)
 
-  pub item-told : (p : ℕ) (r : ItemRule) → p < mostItems → entryAt (countsFolded f (BadItem r (itemsAt c + itemSize * p + ruleRow r .place))) (itemsAt c + itemSize * p + ruleRow r .place) ≡ Item p
+  pub item-told : (p : ℕ) (r : ItemRule) → p < mostItems → entryAt (countsFolded f (BadItem r (itemsAt c + itemSize * p + ruleRow r .offset))) (itemsAt c + itemSize * p + ruleRow r .offset) ≡ Item p
   unfolding entryAt countsFolded itemsTold pick
   item-told p r l =
-      let at = itemsAt c + itemSize * p + ruleRow r .place in
+      let at = itemsAt c + itemSize * p + ruleRow r .offset in
       let k = field-within r in
       let q : (at - (eventsAt + eventSize * eventsFolded f)) / itemSize ≡ p = omega arith in
       rw (le-ltb at eventsAt (omega arith), le-ltb at (eventsAt + eventSize * eventsFolded f) (omega arith), lt-ltb at (eventsAt + eventSize * eventsFolded f + itemSize * mostItems) (omega arith), q)

@@ -11,7 +11,6 @@ use Rattle.page.specs.declared.Item.{Item}
 use Rattle.base.specs.Tests.{pick, every, oneOf}
 use Rattle.base.specs.Checks.{Check, fine, refused}
 use Rattle.contents.specs.declared.Fault.{Fault}
-use Rattle.contents.specs.declared.Fault.the-variants.{BadItem}
 use Rattle.contents.specs.declared.ItemRule.{ItemRule}
 use Rattle.contents.specs.declared.ItemRule.the-variants as rule
 use Rattle.contents.specs.declared.Counts.{Counts}
@@ -21,7 +20,7 @@ use Rattle.contents.specs.Replies.{ruleRow, faultRow}
 use Rattle.items.specs.declared.walk.Walk.{Walk}
 use Rattle.items.specs.declared.walk.Walk.the-variants.{Actions, Stop}
 use Rattle.items.specs.declared.Setting.{Setting}
-use Rattle.items.specs.Items.{itemAt, itemsFrom, kindRight, nestingRight, actionsRight, itemRight, withinOf, next, inside, onward, onFrom, walkOf, walked, outset, walkFault, itemsRight}
+use Rattle.items.specs.Items.{itemAt, itemsFrom, kindRight, nestingRight, actionsRight, itemRight, withinOf, next, inside, onward, brokenAt, onFrom, walkOf, walked, outset, walkFault, itemsRight}
 use Rattle.items.proofs.WalkLaws.{within-action, own-action, within-group, own-group}
 use Rattle.score.specs.Encode.{itemBytes}
 use Rattle.score.specs.Piece.{decode}
@@ -81,7 +80,7 @@ data Walks (m : ℕ) : Walk → Type 0 where
 walks-from : (m : ℕ) (v : Check ItemRule) (at : ℕ) (w : Walk) → Finds OtherRule v → Walks m w → Walks m (onFrom v at w)
 unfolding onFrom faultRow
 walks-from m fine at w no-fault h = h
-walks-from m (refused r) at w (some-fault p) h = stops {x = BadItem r (at + ruleRow r .place)} p
+walks-from m (refused r) at w (some-fault p) h = stops {x = brokenAt at r} p
 
 walks-onward : (k m : ℕ) {w : Walk} (more : ℕ → Walk) → Walks k w → Walks m (more k) → Walks m (onward w more)
 unfolding onward

@@ -21,19 +21,19 @@ use Rattle.wording.specs.declared.Row.{Row}
 use Rattle.wording.specs.declared.Row.the-variants.{Call, Text, Unfold}
 use Rattle.ascii.specs.Text.{bytesOf}
 
--- The rules of an item: both words have one row.
+-- The words of an item's rules, which are ours. Synchrony and error word share a row.
 unfoldable pub ruleWords : ItemRule → List ℕ
 ruleWords rule.Kind = bytesOf "an item's kind, not 0 or 1"
 ruleWords rule.Synchrony = bytesOf "an item's words, out of range or not 0 on an action"
 ruleWords rule.ErrorWord = bytesOf "an item's words, out of range or not 0 on an action"
 ruleWords rule.Part = bytesOf "an item's part, above 15 or not its group's"
-ruleWords rule.Delay = bytesOf "an item's delay, above 5,040,000"
+ruleWords rule.Delay = bytesOf "an item's delay, above 5,040,000 grains (1,000 beats)"
 ruleWords rule.Event = bytesOf "an item's event, out of range, out of order by event and part, or not 0 within a group"
 ruleWords rule.Nesting = bytesOf "an item's nesting, at depth 9 or a group that ends past what holds it"
 ruleWords rule.Message = bytesOf "an action's message number, not below the message count"
 ruleWords rule.Actions = bytesOf "the 1,025th action"
 
--- The words of its column 'When', letter for letter.
+-- The words of the table's column 'When', letter for letter.
 unfoldable pub faultWords : Fault → List ℕ
 faultWords FileShort = bytesOf "file under 32 bytes"
 faultWords (BadCount at) = bytesOf "a count outside its limits"

@@ -29,7 +29,11 @@ fn put_rule_words(out: &mut [u8], at: usize, r: ItemRule) -> usize
             b"an item's words, out of range or not 0 on an action",
         ),
         ItemRule::Part => put_bytes(out, at, b"an item's part, above 15 or not its group's"),
-        ItemRule::Delay => put_bytes(out, at, b"an item's delay, above 5,040,000"),
+        ItemRule::Delay => put_bytes(
+            out,
+            at,
+            b"an item's delay, above 5,040,000 grains (1,000 beats)",
+        ),
         ItemRule::Event => put_bytes(
             out,
             at,

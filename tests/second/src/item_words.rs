@@ -384,7 +384,7 @@ const LINES: &[(&[Change], &str)] = &[
     (&[(57, 2)], "refused 21 at byte 57, item 1, synchrony: an item's words, out of range or not 0 on an action"),
     (&[(118, 1)], "refused 21 at byte 118, item 6, error word: an item's words, out of range or not 0 on an action"),
     (&[(71, 2)], "refused 22 at byte 71, item 2, part: an item's part, above 15 or not its group's"),
-    (&[(99, 1)], "refused 23 at byte 96, item 4, delay: an item's delay, above 5,040,000"),
+    (&[(99, 1)], "refused 23 at byte 96, item 4, delay: an item's delay, above 5,040,000 grains (1,000 beats)"),
     (&[(136, 1)], "refused 24 at byte 136, item 7, event: an item's event, out of range, out of order by event and part, or not 0 within a group"),
     (&[(77, 1)], "refused 24 at byte 76, item 2, event: an item's event, out of range, out of order by event and part, or not 0 within a group"),
     (&[(119, 1)], "refused 24 at byte 124, item 6, event: an item's event, out of range, out of order by event and part, or not 0 within a group"),

@@ -170,7 +170,7 @@ fn when(number: u64, place: usize) -> &'static str {
         (20, _) => "an item's kind, not 0 or 1",
         (21, _) => "an item's words, out of range or not 0 on an action",
         (22, _) => "an item's part, above 15 or not its group's",
-        (23, _) => "an item's delay, above 5,040,000",
+        (23, _) => "an item's delay, above 5,040,000 grains (1,000 beats)",
         (24, _) => {
             "an item's event, out of range, out of order by event and part, or not 0 within a group"
         }

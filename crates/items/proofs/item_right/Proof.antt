@@ -1,6 +1,5 @@
 -- What each half of the rules told, in the order of the definition.
 -- Assumes nothing.
-use mathlib.Core.Path.{_≡_}
 use borrow.Author.Needs.{needs}
 use Rattle.base.proofs.TestLaws.{calls}
 use Rattle.items.proofs.BrokenRules.{right-halves}

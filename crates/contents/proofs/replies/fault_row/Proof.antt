@@ -5,6 +5,7 @@ use mathlib.Core.Path.{_≡_}
 use Prim.Native.Nat.{ℕ}
 use Rattle.contents.specs.declared.Fault.{Fault}
 use Rattle.contents.specs.declared.Reply.{Reply}
+use Rattle.contents.specs.declared.RuleRow.{RuleRow}
 use Rattle.contents.specs.declared.ItemRule.{ItemRule}
 use Rattle.contents.specs.declared.Fault.the-variants.{BadItem}
 use Rattle.contents.specs.Replies.{ruleRow, faultRow}
@@ -16,7 +17,7 @@ case-of : (x y : Fault) (r : Reply) → x ≡ y → r ≡ faultRow y → r ≡ f
 case-of x y r e p = rw e p
 
 -- an item's fault has its rule's number
-item-case : (x : Fault) (rule : ItemRule) (at : ℕ) (told r : Reply) → x ≡ BadItem rule at → told ≡ ruleRow rule → r ≡ record { number = told .number; place = at } → r ≡ faultRow x
+item-case : (x : Fault) (rule : ItemRule) (at : ℕ) (told : RuleRow) (r : Reply) → x ≡ BadItem rule at → told ≡ ruleRow rule → r ≡ record { number = told .number; place = at } → r ≡ faultRow x
 unfolding faultRow
 item-case x rule at told r e p q = rw (e, ← p) q
 

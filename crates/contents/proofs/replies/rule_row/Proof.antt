@@ -3,13 +3,13 @@
 use borrow.Author.Needs.{needs}
 use mathlib.Core.Path.{_≡_}
 use Rattle.contents.specs.declared.ItemRule.{ItemRule}
-use Rattle.contents.specs.declared.Reply.{Reply}
+use Rattle.contents.specs.declared.RuleRow.{RuleRow}
 use Rattle.contents.specs.Replies.{ruleRow}
 use Rattle.contents.proofs.replies.rule_row.Statement.{statement}
 use Rattle.contents.proofs.replies.rule_row.Tie as tie
 
 -- the row of a case is the row of the rule that is this case
-case-of : (x y : ItemRule) (r : Reply) → x ≡ y → r ≡ ruleRow y → r ≡ ruleRow x
+case-of : (x y : ItemRule) (r : RuleRow) → x ≡ y → r ≡ ruleRow y → r ≡ ruleRow x
 case-of x y r e p = rw e p
 
 returns : tie.Need-returns

@@ -1,13 +1,13 @@
 -- Each case has its own name.
 -- Assumes nothing.
-use Rattle.refusals.specs.Entries.{fieldOf}
+use Rattle.refusals.specs.Entries.{refusalField}
 use Rattle.refusals.proofs.NameLaws.{fields}
-use Rattle.refusals.proofs.entries.put_item_field.Statement.{statement}
-use Rattle.refusals.proofs.entries.put_item_field.Tie as tie
+use Rattle.refusals.proofs.entries.put_refusal_field.Statement.{statement}
+use Rattle.refusals.proofs.entries.put_refusal_field.Tie as tie
 
-pub put-item-field-spec : {M : Type 1} → statement M
-unfolding fieldOf
-put-item-field-spec =
+pub put-refusal-field-spec : {M : Type 1} → statement M
+unfolding refusalField
+put-refusal-field-spec =
     tie.close
     (tie.spec
     (λ c. search fields)
