@@ -18,10 +18,12 @@ use Rattle.contents.specs.declared.Counts.{Counts}
 use Rattle.contents.specs.Limits.{contentsSize, eventSize, itemSize, messageSize, longest}
 use Rattle.contents.specs.Contents.{countsOf, offsetsOf, countsRight, offsetsRight, eventsAt, itemsAt, messagesAt}
 use Rattle.contents.specs.Replies.{faultRow}
+use Rattle.contents.specs.Entries.{entryAt}
 use Rattle.items.specs.declared.Setting.{Setting}
 use Rattle.items.specs.Items.{itemRight, brokenAt, outset, itemsRight}
 use Rattle.items.specs.Ranged.{blank}
 use Rattle.contents.proofs.RuleRows.{field-within}
+use Rattle.contents.proofs.EntryLaws.{event-at, item-at, message-at}
 use Rattle.messages.specs.Messages.{messageRight, messagesRight}
 use Rattle.score.specs.Events.{eventsRight}
 use Rattle.score.specs.Piece.{decode}
@@ -29,10 +31,10 @@ use Rattle.score.specs.File.{bodiesRight, checked}
 use Rattle.score.proofs.Decoded.{events-decoded, items-decoded}
 use Rattle.session.specs.declared.Refusal.the-variants.{File}
 use Rattle.session.specs.Replies.{refusalRow}
-use Rattle.refusals.specs.declared.entries.Entry.{Entry}
-use Rattle.refusals.specs.declared.entries.Entry.the-variants.{Nowhere, Contents, Event, Item, Message}
+use Rattle.contents.specs.declared.entries.Entry.{Entry}
+use Rattle.contents.specs.declared.entries.Entry.the-variants.{Nowhere, Contents, Event, Item, Message}
 use Rattle.wording.specs.Words.{faultPlaced, placed}
-use Rattle.refusals.specs.Entries.{entryAt, entryOf}
+use Rattle.refusals.specs.Entries.{entryOf}
 use Rattle.checking.proofs.FaultPlaces.{Standing, textTo, fault-of, no-fault, need-fault, event-fault, item-fault, message-fault}
 
 -- Which entry is told of which fault, row by row. There is no row for NoMessage: the file check never finds it.
@@ -60,28 +62,6 @@ pub data Named (f : List ℕ) : Fault → Entry → Type 0 where
       → ((j : ℕ) → j < n → messageRight f (countsOf f) (messagesAt (countsOf f) + messageSize * j) (textTo f (messagesAt (countsOf f)) j 0) ≡ true)
       → Named f (BadMessage (messagesAt (countsOf f) + messageSize * n)) (Message n)
   text-left : Named f TextLeft (Contents 6)
-
--- ---- the entry of a place
-
-module _ (c : Counts) where
-  event-at : (k : ℕ) → k < c .events → entryAt c (eventsAt + eventSize * k) ≡ Event (1 + k)
-  unfolding entryAt pick
-  event-at k p =
-      let q : (eventsAt + eventSize * k - eventsAt) / eventSize ≡ k = omega arith in
-      rw (le-ltb (eventsAt + eventSize * k) eventsAt (omega arith), lt-ltb (eventsAt + eventSize * k) (itemsAt c) (omega arith), q)
-
-  item-at : (p k : ℕ) → p < c .items → k < itemSize → entryAt c (itemsAt c + itemSize * p + k) ≡ Item p
-  unfolding entryAt pick
-  item-at p k l m =
-      let at = itemsAt c + itemSize * p + k in
-      let q : (at - itemsAt c) / itemSize ≡ p = omega arith in
-      rw (le-ltb at eventsAt (omega arith), le-ltb at (itemsAt c) (omega arith), lt-ltb at (messagesAt c) (omega arith), q)
-
-  message-at : (n : ℕ) → n < c .messages → entryAt c (messagesAt c + messageSize * n) ≡ Message n
-  unfolding entryAt pick
-  message-at n l =
-      let q : (messagesAt c + messageSize * n - messagesAt c) / messageSize ≡ n = omega arith in
-      rw (le-ltb (messagesAt c + messageSize * n) eventsAt (omega arith), le-ltb (messagesAt c + messageSize * n) (itemsAt c) (omega arith), le-ltb (messagesAt c + messageSize * n) (messagesAt c) (omega arith), lt-ltb (messagesAt c + messageSize * n) (messagesAt c + messageSize * c .messages) (omega arith), q)
 
 -- ---- the entry of a fault, in a file that has its contents
 

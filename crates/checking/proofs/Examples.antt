@@ -20,7 +20,8 @@ use Rattle.score.specs.Piece.{decode}
 use Rattle.score.specs.File.{bodiesRight, checked}
 use Rattle.session.specs.Replies.{refusalRow}
 use Rattle.wording.specs.Words.{ruleWords, faultWords, refusalWords, faultPlaced, placed}
-use Rattle.refusals.specs.Entries.{entryAt, entryOf, fieldWords, entryWords, ruleField, faultField, refusalField, namedWords}
+use Rattle.contents.specs.Entries.{entryAt}
+use Rattle.refusals.specs.Entries.{entryOf, fieldWords, entryWords, ruleField, faultField, refusalField, namedWords}
 use Rattle.refusals.specs.Line.{atByte, placeWords, whereWords, refusalLine}
 use Rattle.checking.specs.Tallies.{actionsIn, uses, partsIn}
 use Rattle.checking.specs.Checked.{listed, partsTold, countsTold, acceptedLine, lineBy, checkedLine}

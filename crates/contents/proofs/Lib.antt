@@ -2,4 +2,5 @@
 pub mod Verdicts
 pub mod RuleRows
 pub mod ContentsLaws
+pub mod EntryLaws
 pub mod PartLaws

@@ -3,4 +3,5 @@ pub mod Limits
 pub mod Bytes
 pub mod Replies
 pub mod Contents
+pub mod Entries
 pub mod Inner

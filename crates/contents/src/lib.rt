@@ -17,9 +17,12 @@ use limits::MOST_MESSAGES;
 use limits::MOST_TEXT;
 
 pub mod bytes;
+mod entries;
 pub mod limits;
 mod replies;
 
+pub use entries::Entry;
+pub use entries::entry_at;
 pub use replies::replied;
 pub use replies::rule_row;
 

@@ -14,9 +14,10 @@ use Rattle.contents.specs.declared.Fault.the-variants.{FileShort, BadCount, Bad
 use Rattle.contents.specs.declared.ItemRule.the-variants as rule
 use Rattle.session.specs.Replies.{refusalRow}
 use Rattle.session.specs.declared.Refusal.the-variants.{File, BadTempo}
-use Rattle.refusals.specs.declared.entries.Entry.the-variants.{Nowhere, Contents, Event, Item, Message}
+use Rattle.contents.specs.declared.entries.Entry.the-variants.{Nowhere, Contents, Event, Item, Message}
 use Rattle.wording.specs.Words.{ruleWords, faultWords, refusalWords, extendedWords, unfoldingWords, faultPlaced, placed}
-use Rattle.refusals.specs.Entries.{entryAt, entryOf, fieldWords, entryWords, ruleField, faultField, refusalField, namedWords}
+use Rattle.contents.specs.Entries.{entryAt}
+use Rattle.refusals.specs.Entries.{entryOf, fieldWords, entryWords, ruleField, faultField, refusalField, namedWords}
 use Rattle.refusals.specs.Line.{atByte, placeWords, whereWords, refusalLine}
 use Rattle.extended.specs.Layout.{extentOf}
 use Rattle.unfolding.specs.declared.Unfolding.the-variants.{BadExtended, OverLimit}

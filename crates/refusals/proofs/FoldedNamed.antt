@@ -15,7 +15,7 @@ use Rattle.values.specs.Curves.{Point}
 use Rattle.extended.specs.Layout.{extendedContents, foldedSize, extentOf, itemsStart, pointsStart, contentsRight}
 use Rattle.extended.specs.Points.{pointsFrom, pointsAfter}
 use Rattle.extended.specs.Right.{ownRight, itemOf, endsWithin, foldsRight, extendedRight}
-use Rattle.refusals.specs.declared.entries.Entry.the-variants.{Item}
+use Rattle.contents.specs.declared.entries.Entry.the-variants.{Item}
 use Rattle.refusals.specs.Unfolds.{foldedEntry}
 use Rattle.refusals.proofs.UnfoldLaws.{item-named}
 

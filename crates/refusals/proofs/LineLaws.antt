@@ -17,7 +17,7 @@ use Rattle.session.specs.declared.Refusal.{Refusal}
 use Rattle.session.specs.Replies.{refusalRow}
 use Rattle.ascii.specs.Text.{bytesOf}
 use Rattle.wording.specs.Words.{refusalWords, placed}
-use Rattle.refusals.specs.declared.entries.Entry.{Entry}
+use Rattle.contents.specs.declared.entries.Entry.{Entry}
 use Rattle.refusals.specs.Entries.{entryOf, namedWords}
 use Rattle.refusals.specs.Line.{atByte, placeWords, placeRoom, whereWords, refusalLine}
 

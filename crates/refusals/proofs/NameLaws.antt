@@ -18,8 +18,8 @@ use Rattle.contents.specs.declared.Fault.the-variants.{BadItem}
 use Rattle.contents.specs.declared.ItemRule.{ItemRule}
 use Rattle.session.specs.declared.Refusal.{Refusal}
 use Rattle.session.specs.declared.Refusal.the-variants.{File}
-use Rattle.refusals.specs.declared.entries.Entry.{Entry}
-use Rattle.refusals.specs.declared.entries.Entry.the-variants.{Nowhere, Contents, Event, Item, Message}
+use Rattle.contents.specs.declared.entries.Entry.{Entry}
+use Rattle.contents.specs.declared.entries.Entry.the-variants.{Nowhere, Contents, Event, Item, Message}
 use Rattle.refusals.specs.Entries.{fieldWords, fieldCount, entryWords, entryRoom, ruleField, ruleRoom, faultField, refusalField, namedWords}
 
 -- ---- a field of the contents

@@ -18,8 +18,9 @@ use Rattle.text.specs.declared.Transcript.the-variants.{NoRoom, BadText}
 use Rattle.text.specs.declared.TextReply.{TextReply}
 use Rattle.text.specs.Replies.{transcriptRow}
 use Rattle.wording.specs.Words.{refusalWords, transcriptWords}
-use Rattle.refusals.specs.declared.entries.Entry.{Entry}
-use Rattle.refusals.specs.Entries.{entryAt, namedWords}
+use Rattle.contents.specs.declared.entries.Entry.{Entry}
+use Rattle.contents.specs.Entries.{entryAt}
+use Rattle.refusals.specs.Entries.{namedWords}
 use Rattle.refusals.specs.Line.{placeWords}
 use Rattle.refusals.specs.Texts.{spotWords, toldEnd, toldWords, misreadLine, roomLine, refusedHead, unmadeWords, refusedEnd, unmadeLine}
 

@@ -21,8 +21,8 @@ use Rattle.unfolding.specs.declared.Unfolding.the-variants.{Made, NoRoom, BadEx
 use Rattle.unfolding.specs.declared.UnfoldReply.{UnfoldReply}
 use Rattle.unfolding.specs.Replies.{unfoldRow}
 use Rattle.wording.specs.Words.{unfoldingWords}
-use Rattle.refusals.specs.declared.entries.Entry.{Entry}
-use Rattle.refusals.specs.declared.entries.Entry.the-variants.{Nowhere, Item}
+use Rattle.contents.specs.declared.entries.Entry.{Entry}
+use Rattle.contents.specs.declared.entries.Entry.the-variants.{Nowhere, Item}
 use Rattle.refusals.specs.Entries.{entryWords, entryRoom}
 use Rattle.refusals.specs.Line.{atByte, placeRoom}
 use Rattle.refusals.specs.Unfolds.{foldedEntry, foldedPlace, foldedWhere, foldedEnd, foldedLine}

@@ -1,36 +1,24 @@
--- Which entry of a score file a byte lies in, its name for people, and the name of the field that an item's rule is about.
-use Prim.Native.Nat.{ℕ, _+_, _-_, _/_}
+-- The entry of a score file at fault, its name for people, and the name of the field that an item's rule is about.
+use Prim.Native.Nat.{ℕ}
 use mathlib.Core.List.{List, [], _∷_, _++_}
-use lib.Dec.{leb, ltb}
+use lib.Dec.{leb}
 use lib.ListN.{length, getD}
 use Rattle.base.specs.Tests.{pick}
 use Rattle.ascii.specs.Decimals.{decimal}
 use Rattle.ascii.specs.Text.{bytesOf}
-use Rattle.contents.specs.declared.Counts.{Counts}
 use Rattle.contents.specs.declared.Fault.{Fault}
 use Rattle.contents.specs.declared.Fault.the-variants.{FileShort, BadCount, BadOffset, BadLength, BadEvent, BadItem, BadMessage, TextLeft, NoMessage}
 use Rattle.contents.specs.declared.ItemRule.{ItemRule}
 use Rattle.contents.specs.declared.ItemRule.the-variants as rule
-use Rattle.contents.specs.Limits.{contentsSize, eventSize, itemSize, messageSize}
-use Rattle.contents.specs.Contents.{countsOf, eventsAt, itemsAt, messagesAt, textAt}
+use Rattle.contents.specs.Limits.{contentsSize}
+use Rattle.contents.specs.Contents.{countsOf}
+use Rattle.contents.specs.Entries.{entryAt}
 use Rattle.session.specs.declared.Refusal.{Refusal}
 use Rattle.session.specs.declared.Refusal.the-variants.{MemoryShort, RoomShort, File, BadTempo, BadGrace, NoSession, NoEvent, NotAfter, BadMillis, ClockFull}
 use Rattle.session.specs.Replies.{refusalRow}
-use Rattle.refusals.specs.declared.entries.Entry.{Entry}
-use Rattle.refusals.specs.declared.entries.Entry.the-variants.{Nowhere, Contents, Event, Item, Message}
+use Rattle.contents.specs.declared.entries.Entry.{Entry}
+use Rattle.contents.specs.declared.entries.Entry.the-variants.{Nowhere, Contents, Event, Item, Message}
 use Rattle.wording.specs.Words.{placed}
-
--- An offset or a count in the table of contents is a u32.
-abbrev pub fieldSize : ℕ
-fieldSize = 4
-
--- The entry that holds this byte. Events are numbered from 1; fields of the contents, items and messages from 0.
-unfoldable pub entryAt : Counts → ℕ → Entry
-entryAt c at =
-    pick (ltb at eventsAt) (Contents (at / fieldSize))
-    (pick (ltb at (itemsAt c)) (Event (1 + (at - eventsAt) / eventSize))
-    (pick (ltb at (messagesAt c)) (Item ((at - itemsAt c) / itemSize))
-    (pick (ltb at (textAt c)) (Message ((at - messagesAt c) / messageSize)) Nowhere)))
 
 -- The entry at fault, where the refusal has a place and the file has its contents.
 unfoldable pub entryOf : List ℕ → Refusal → Entry

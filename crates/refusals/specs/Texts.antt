@@ -12,7 +12,8 @@ use Rattle.text.specs.declared.Transcript.{Transcript}
 use Rattle.text.specs.declared.Transcript.the-variants.{NoRoom, BadText}
 use Rattle.text.specs.Replies.{transcriptRow}
 use Rattle.wording.specs.Words.{refusalWords, transcriptWords}
-use Rattle.refusals.specs.Entries.{entryAt, namedWords}
+use Rattle.contents.specs.Entries.{entryAt}
+use Rattle.refusals.specs.Entries.{namedWords}
 use Rattle.refusals.specs.Line.{placeWords}
 
 -- ---- a byte of the text

@@ -13,8 +13,8 @@ use Rattle.unfolding.specs.declared.Unfolding.{Unfolding}
 use Rattle.unfolding.specs.declared.Unfolding.the-variants.{Made, NoRoom, BadExtended, OverLimit, BadFile}
 use Rattle.unfolding.specs.Replies.{unfoldRow}
 use Rattle.wording.specs.Words.{unfoldingWords}
-use Rattle.refusals.specs.declared.entries.Entry.{Entry}
-use Rattle.refusals.specs.declared.entries.Entry.the-variants.{Nowhere, Item}
+use Rattle.contents.specs.declared.entries.Entry.{Entry}
+use Rattle.contents.specs.declared.entries.Entry.the-variants.{Nowhere, Item}
 use Rattle.refusals.specs.Entries.{entryWords}
 use Rattle.refusals.specs.Line.{atByte}
 

@@ -1,55 +1,20 @@
-// Which entry of a score file a byte lies in, its name for people, and the name of the field that an item's rule is about.
+// The entry at fault, its name for people, and the name of the field that an item's rule is about.
 ghost use mathlib.Core.Path.{_≡_};
 ghost use mathlib.Core.List.{[]};
 ghost use Prim.Native.Nat.{_+_, _≤_};
 ghost use lib.ListN.{length, getD};
 ghost use Rattle.ascii.specs.Laying.{Laid};
-ghost use Rattle.refusals.specs.Entries.{entryAt, entryOf, entryWords, entryRoom, fieldWords, ruleField, ruleRoom, faultField, refusalField, namedWords, namedRoom};
+ghost use Rattle.refusals.specs.Entries.{entryOf, entryWords, entryRoom, fieldWords, ruleField, ruleRoom, faultField, refusalField, namedWords, namedRoom};
 use ascii::put_bytes;
-use contents::Counts;
+use contents::Entry;
 use contents::Fault;
 use contents::ItemRule;
+use contents::entry_at;
 use contents::limits::CONTENTS_SIZE;
-use contents::limits::EVENT_SIZE;
-use contents::limits::ITEM_SIZE;
-use contents::limits::MESSAGE_SIZE;
 use session::Refusal;
 use session::refusal_row;
 use wording::placed;
 use wording::put_counted;
-
-// A field of the table of contents, an event from 1, an item by its page place, or a message from 0.
-pub enum Entry {
-    Nowhere,
-    Contents(usize),
-    Event(usize),
-    Item(usize),
-    Message(usize),
-}
-
-const FIELD_SIZE: usize = 4;
-
-// The entry that holds the byte `at` in a file of these counts, whatever they are: what is behind a table is compared by division, so that nothing wraps.
-pub fn entry_at(c: Counts, at: usize) -> Entry
-    ensures { λ r. ⌜ r ≡ entryAt c at ⌝ }
-{
-    if at < CONTENTS_SIZE {
-        return Entry::Contents(at / FIELD_SIZE);
-    }
-    let past = at - CONTENTS_SIZE;
-    if past / EVENT_SIZE < c.events {
-        return Entry::Event(1 + past / EVENT_SIZE);
-    }
-    let past = past - EVENT_SIZE * c.events;
-    if past / ITEM_SIZE < c.items {
-        return Entry::Item(past / ITEM_SIZE);
-    }
-    let past = past - ITEM_SIZE * c.items;
-    if past / MESSAGE_SIZE < c.messages {
-        return Entry::Message(past / MESSAGE_SIZE);
-    }
-    Entry::Nowhere
-}
 
 // The entry at fault, by the counts that the file itself gives.
 pub fn entry_of(file: &[u8], x: Refusal) -> Entry

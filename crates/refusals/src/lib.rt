@@ -1,6 +1,4 @@
 // A refusal told to people, laid out on lent bytes: its line, with the entry at fault.
-pub use entries::Entry;
-pub use entries::entry_at;
 pub use line::refusal_line;
 pub use texts::misread_line;
 pub use texts::room_line;

@@ -25,8 +25,8 @@ use Rattle.extended.specs.declared.Extent.{Extent}
 use Rattle.extended.specs.Layout.{extendedContents, extentOf}
 use Rattle.unfolding.specs.declared.Unfolding.{Unfolding}
 use Rattle.unfolding.specs.declared.Unfolding.the-variants.{Made, NoRoom, BadExtended, OverLimit, BadFile}
-use Rattle.refusals.specs.declared.entries.Entry.the-variants.{Nowhere, Event, Item}
-use Rattle.refusals.specs.Entries.{entryAt}
+use Rattle.contents.specs.declared.entries.Entry.the-variants.{Nowhere, Event, Item}
+use Rattle.contents.specs.Entries.{entryAt}
 use Rattle.refusals.specs.Texts.{unmadeLine}
 use Rattle.refusals.specs.Unfolds.{foldedLine}
 use Rattle.transcribing.specs.Unfolds.{eventsFolded, itemsTold, countsFolded, unfoldLine, unfoldEnding}
