@@ -101,7 +101,7 @@ module _ (t : List ℕ) (at from : ℕ) (stage : Stage) (passed : Passes t at fr
   script-over e = rw (script-follow stage (drop at t), passed .left, e)
 
   module _ (s : Step) (read : Lines t (line stage (drop from t)) s) where
-    read-line : isFault (s .found) ≡ false → line stage (blanks (drop at t)) ≡ got (lineIn t (s .found)) (drop (s .next) t)
+    pub read-line : isFault (s .found) ≡ false → line stage (blanks (drop at t)) ≡ got (lineIn t (s .found)) (drop (s .next) t)
     unfolding asLine
     read-line p = rw (passed .left) (sym (read .says) ∙ found-line t (s .found) (drop (s .next) t) p)
 
