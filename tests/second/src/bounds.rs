@@ -99,9 +99,13 @@ fn several_counts(random: &mut Random, tables: &mut Tables) {
 
 // ----------------------------------------------------------------- items
 
-/// A chain of groups under the last event, with something or nothing inmost.
 fn nested(random: &mut Random, tables: &mut Tables) {
     let groups = random.pick(&[7, 8, 8, 9, 10, 50, 1_000, 2_040, 2_100]);
+    chain(random, tables, groups);
+}
+
+/// A chain of groups under the last event, with something or nothing inmost.
+pub fn chain(random: &mut Random, tables: &mut Tables, groups: usize) {
     let action = random.percent(50);
     let count = groups + usize::from(action);
     for index in 0..groups {

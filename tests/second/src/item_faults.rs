@@ -81,7 +81,7 @@ pub fn faulty(random: &mut Random, number: u64, style: Style) -> Vec<u8> {
 const PAGES: usize = 100;
 
 /// A page where an item stands as the ways and the style want it.
-fn page_for(random: &mut Random, ways: &[Way], style: Style) -> Option<Page> {
+pub fn page_for(random: &mut Random, ways: &[Way], style: Style) -> Option<Page> {
     if clash(ways) || !can_stand(style, ways) {
         return None;
     }
@@ -195,7 +195,7 @@ fn stands(style: Style, page: &Page, ways: &[Way]) -> bool {
 
 /// Can this item be against the rules in this way? One that is an action too many is
 /// so by its page.
-fn fits(way: Way, spot: Spot) -> bool {
+pub fn fits(way: Way, spot: Spot) -> bool {
     let before = spot.before.unwrap_or_default();
     let (top, action) = (spot.depth == 1, spot.action);
     match way {
@@ -214,7 +214,7 @@ fn fits(way: Way, spot: Spot) -> bool {
 // ---------------------------------------------------------------- faults
 
 /// This item's field, just out or far out.
-fn spoil(random: &mut Random, tables: &mut Tables, spot: Spot, way: Way) {
+pub fn spoil(random: &mut Random, tables: &mut Tables, spot: Spot, way: Way) {
     let events = tables.durations.len() as u16;
     let messages = tables.messages.len() as u16;
     let before = spot.before.unwrap_or_default();

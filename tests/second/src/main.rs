@@ -32,6 +32,12 @@ mod mutant;
 mod nodes;
 mod noise;
 mod odd;
+mod place_cases;
+mod place_faults;
+mod place_layouts;
+mod place_shown;
+mod place_words;
+mod places;
 mod play;
 mod random;
 mod rules;
@@ -68,6 +74,7 @@ const USAGE: &str = "usage:
   second scatter DIR SEED COUNT
   second noise SEED LINES
   second texts SEED COUNT OUT
+  second places SEED COUNT OUT
   second extended SEED COUNT OUT
   second words";
 
@@ -128,6 +135,7 @@ fn run(arguments: &[OsString]) -> Result<bool, Fault> {
             Ok(true)
         }
         ("texts", [seed, count, out]) => texts(number(seed)?, number(count)?, Path::new(out)),
+        ("places", [seed, count, out]) => places(number(seed)?, number(count)?, Path::new(out)),
         ("extended", [seed, count, out]) => extended(number(seed)?, number(count)?, Path::new(out)),
         ("words", []) => Ok(tally(words::words())),
         _ => Err(Fault::Arguments),
@@ -259,6 +267,21 @@ fn texts(seed: u64, count: u64, out: &Path) -> Result<bool, Fault> {
         let case = texts::Case::of_seed(seed.wrapping_add(index));
         batch.write_all(&case.record())?;
         lines.write_all(&texts::lines(&case.expected()))?;
+    }
+    batch.flush()?;
+    lines.flush()?;
+    Ok(true)
+}
+
+/// Each seed's refused text and the place that is asked into `out`; what must be said
+/// of them on standard output.
+fn places(seed: u64, count: u64, out: &Path) -> Result<bool, Fault> {
+    let mut batch = BufWriter::new(fs::File::create(out)?);
+    let mut lines = BufWriter::new(io::stdout().lock());
+    for index in 0..count {
+        let case = place_cases::Case::of_seed(seed.wrapping_add(index));
+        batch.write_all(&case.record())?;
+        lines.write_all(case.said().line().as_bytes())?;
     }
     batch.flush()?;
     lines.flush()?;

@@ -5,7 +5,7 @@ use std::cell::Cell;
 use std::sync::OnceLock;
 
 pub const VARIABLE: &str = "SECOND_MUTANT";
-pub const LAST: u32 = 60;
+pub const LAST: u32 = 64;
 
 pub const EXACTLY_E_J_IS_PAST: u32 = 1;
 pub const SLICE_FROM_THE_MISSED_EVENT: u32 = 2;
@@ -67,6 +67,13 @@ pub const PARTS_FALL_BY_PART: u32 = 57;
 pub const GROUPS_PART_IS_NESTING: u32 = 58;
 pub const RULE_BEFORE_ITEM: u32 = 59;
 pub const ITEMS_GET_SEVEN: u32 = 60;
+pub const ITEMS_TOLD_AT_THEIR_HOLDERS: u32 = 61;
+pub const COMMENT_ENDS_TWO_LINES: u32 = 62;
+pub const MESSAGES_TOLD_AT_THEIR_NUMBERS: u32 = 63;
+pub const LAST_WITHIN_THE_LIMIT_TOLD: u32 = 64;
+
+/// Tried, it stands for no wrong rule, whatever the environment says.
+pub const NONE: u32 = u32::MAX;
 
 /// The number in the environment, 0 without one; an unreadable one is an error
 /// so that a slip is never taken for a run without a mutant.

@@ -74,6 +74,27 @@ pub enum Sort {
     LabelEnd,
 }
 
+/// What the file is made of, as it stands in the text.
+#[derive(Clone, Copy, PartialEq, Debug)]
+pub enum Mark {
+    /// The newline that ends a comment.
+    CommentEnd,
+    /// A message's number.
+    ListNumber,
+    /// A label's quote, and how many bytes the label has.
+    Label(usize),
+    /// The byte behind the list's last token.
+    ListEnd,
+    /// The word.
+    Event,
+    /// An action's first byte.
+    Action,
+    /// A group's first byte.
+    Group,
+    /// The brace that ends a group.
+    Close,
+}
+
 /// Text into a room for the file.
 pub fn read(text: &[u8], room: usize) -> Reply {
     if room < FILE_ROOM {
@@ -99,15 +120,17 @@ pub fn read(text: &[u8], room: usize) -> Reply {
 
 /// What the text says, held against no limit but the fields'.
 pub fn tables(text: &[u8]) -> Result<Tables, Fault> {
-    let mut reader = Reader {
-        text,
-        at: 0,
-        line: 1,
-        line_start: 0,
-        tables: Tables::default(),
-    };
+    let mut reader = Reader::new(text);
     reader.whole()?;
     Ok(reader.tables)
+}
+
+/// What the file is made of, and the byte of the text that each stands at.
+pub fn marks(text: &[u8]) -> Result<Vec<(Mark, usize)>, Fault> {
+    let mut reader = Reader::new(text);
+    reader.marks = Some(Vec::new());
+    reader.whole()?;
+    Ok(reader.marks.unwrap_or_default())
 }
 
 struct Reader<'t> {
@@ -118,6 +141,27 @@ struct Reader<'t> {
     line: usize,
     line_start: usize,
     tables: Tables,
+    /// Kept only where they are asked for.
+    marks: Option<Vec<(Mark, usize)>>,
+}
+
+impl Reader<'_> {
+    fn new(text: &[u8]) -> Reader<'_> {
+        Reader {
+            text,
+            at: 0,
+            line: 1,
+            line_start: 0,
+            tables: Tables::default(),
+            marks: None,
+        }
+    }
+
+    fn mark(&mut self, mark: Mark, at: usize) {
+        if let Some(marks) = &mut self.marks {
+            marks.push((mark, at));
+        }
+    }
 }
 
 // --------------------------------------------------------------- grammar
@@ -125,9 +169,12 @@ struct Reader<'t> {
 impl Reader<'_> {
     fn whole(&mut self) -> Result<(), Fault> {
         self.word("messages", &["messages"])?;
+        let mut list_end = self.at;
         while self.digit_next() {
             self.message()?;
+            list_end = self.at;
         }
+        self.mark(Mark::ListEnd, list_end);
         while !self.end_next() {
             self.event()?;
         }
@@ -140,12 +187,17 @@ impl Reader<'_> {
         if number != self.tables.messages.len() as u64 {
             return self.fault(first, Sort::OutOfTurn, "list number");
         }
+        self.mark(Mark::ListNumber, first);
+        self.blanks();
+        let quote = self.at;
         let label = self.label()?;
+        self.mark(Mark::Label(label.len()), quote);
         self.tables.add_message(&label);
         Ok(())
     }
 
     fn event(&mut self) -> Result<(), Fault> {
+        self.mark(Mark::Event, self.at);
         self.word("event", &["event"])?;
         let duration = self.beats()?;
         self.tables.durations.push(duration);
@@ -177,12 +229,17 @@ impl Reader<'_> {
                 } else {
                     0
                 };
+                let first = self.at;
                 let entry = self.item(part, event as u16)?;
                 if entry.kind == 1 {
+                    self.mark(Mark::Group, first);
                     open.push(self.tables.items.len());
+                } else {
+                    self.mark(Mark::Action, first);
                 }
                 self.tables.items.push(entry);
             } else if let Some(group) = open.pop() {
+                self.mark(Mark::Close, self.at);
                 self.byte(b'}', "item or }")?;
                 let within = self.tables.items.len() - group - 1;
                 self.tables.items[group].last = within as u16;
@@ -309,6 +366,9 @@ impl Reader<'_> {
     /// Up to the newline, which is a blank of its own.
     fn comment(&mut self) {
         self.at += self.run(|byte| byte != b'\n');
+        if self.next().is_some() {
+            self.mark(Mark::CommentEnd, self.at);
+        }
         if self.next().is_some() && mutant::is(mutant::COMMENT_SWALLOWS_ITS_LINE) {
             self.at += 1;
         }

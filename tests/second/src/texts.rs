@@ -142,7 +142,7 @@ const SMALL: usize = 1_200;
 
 /// A small sound score with messages, actions and groups, often with labels
 /// that a text must take care of.
-fn piece(random: &mut Random) -> Tables {
+pub fn piece(random: &mut Random) -> Tables {
     let mut tables = loop {
         let tables = scores::invent(random).tables;
         let has = |kind: u8| tables.items.iter().any(|item| item.kind == kind);
@@ -151,19 +151,24 @@ fn piece(random: &mut Random) -> Tables {
         }
     };
     if random.percent(40) {
-        let mut labels = tokens::labels(&tables);
-        for label in &mut labels {
-            if random.percent(50) {
-                *label = odd_label(random);
-            }
-        }
-        tokens::set_labels(&mut tables, &labels);
+        odd_labels(random, &mut tables);
     }
     tables
 }
 
+/// Half of the labels become odd.
+pub fn odd_labels(random: &mut Random, tables: &mut Tables) {
+    let mut labels = tokens::labels(tables);
+    for label in &mut labels {
+        if random.percent(50) {
+            *label = odd_label(random);
+        }
+    }
+    tokens::set_labels(tables, &labels);
+}
+
 /// Bytes that a text spells otherwise, or that stand for something outside.
-fn odd_label(random: &mut Random) -> Vec<u8> {
+pub fn odd_label(random: &mut Random) -> Vec<u8> {
     let alphabet: &[u8] = random.pick(&[
         &b"\"\\"[..],
         b"\\",
@@ -261,7 +266,7 @@ fn at_a_limit(random: &mut Random, sort: u64) -> Vec<u8> {
 }
 
 /// What the file check would refuse, and a slip or two: a 16 comes first.
-fn wrong_twice(random: &mut Random) -> Vec<u8> {
+pub fn wrong_twice(random: &mut Random) -> Vec<u8> {
     let mut tables = piece(random);
     for _ in 0..random.pick(&[1, 1, 2]) {
         // Some limits leave no label behind that the next could take.
@@ -331,7 +336,7 @@ fn comment_start(words: &[u8]) -> usize {
 
 // ------------------------------------------------------------------- big
 
-const BIG: usize = 100_000;
+pub const BIG: usize = 100_000;
 
 /// Something of 100,000 bytes or more, or as many of a thing; the sorts take
 /// turns.
@@ -350,24 +355,24 @@ fn big(random: &mut Random, turn: u64) -> Vec<u8> {
 }
 
 /// One text of several stretches.
-fn joined(pieces: &[&[u8]]) -> Vec<u8> {
+pub fn joined(pieces: &[&[u8]]) -> Vec<u8> {
     pieces.concat()
 }
 
-fn big_label(random: &mut Random) -> Vec<u8> {
+pub fn big_label(random: &mut Random) -> Vec<u8> {
     let label = vec![random.pick(b"a #{\xff\x01"); BIG];
     let end: &[u8] = random.pick(&[&b"\"event 1"[..], b"\"event 1", b"", b"\n\"", b"\\n\""]);
     joined(&[b"messages 0 \"", &label, end])
 }
 
-fn big_escapes(random: &mut Random) -> Vec<u8> {
+pub fn big_escapes(random: &mut Random) -> Vec<u8> {
     let label = random.pick(&[&b"\\\""[..], b"\\\\"]).repeat(BIG);
     let end: &[u8] = random.pick(&[&b"\"event 1"[..], b"\"event 1", b"\\", b"\\x\""]);
     joined(&[b"messages\n0 \"", &label, end])
 }
 
 /// Letters that are no word, alone or behind one, where any word may stand.
-fn big_word(random: &mut Random) -> Vec<u8> {
+pub fn big_word(random: &mut Random) -> Vec<u8> {
     let mut tokens = spelled_piece(random);
     let place = random.index(tokens.len());
     let letters = vec![random.pick(b"asz"); BIG];
@@ -380,7 +385,7 @@ fn big_word(random: &mut Random) -> Vec<u8> {
     laid_out(random, &tokens)
 }
 
-fn big_number(random: &mut Random) -> Vec<u8> {
+pub fn big_number(random: &mut Random) -> Vec<u8> {
     let digits = vec![random.pick(b"019"); BIG];
     let front: &[u8] = random.pick(&[
         &b"messages\n  "[..],
@@ -406,14 +411,14 @@ fn big_blank(random: &mut Random) -> Vec<u8> {
 }
 
 /// Groups in groups, closed nowhere, or but for one, or with something else.
-fn open_braces(random: &mut Random) -> Vec<u8> {
+pub fn open_braces(random: &mut Random) -> Vec<u8> {
     let groups = b"0group{".repeat(BIG / 2);
     let end: &[u8] = random.pick(&[&b""[..], b"\n", b"}", b"{", b"event 1"]);
     joined(&[b"messages event 1 part 0 ", &groups, end])
 }
 
 /// As many groups in groups, all closed, and sometimes one more brace.
-fn closed_braces(random: &mut Random) -> Vec<u8> {
+pub fn closed_braces(random: &mut Random) -> Vec<u8> {
     let count = random.pick(&[BIG / 2, 65_535, 65_536, 65_537]);
     let groups = b"0group{".repeat(count);
     let closed = b"}".repeat(count + random.pick(&[0, 0, 0, 1]));
@@ -421,7 +426,7 @@ fn closed_braces(random: &mut Random) -> Vec<u8> {
 }
 
 /// More of a thing than sixteen bits count, or `part` with no item very often.
-fn many(random: &mut Random) -> Vec<u8> {
+pub fn many(random: &mut Random) -> Vec<u8> {
     let count = random.pick(&[65_536, 65_537, 66_000]);
     match random.below(4) {
         0 => many_messages(random, count),

@@ -7,6 +7,7 @@ use crate::item_shown::item_shown;
 use crate::item_words::item_words;
 use crate::lines::{line, reason, shown, verdict};
 use crate::odd::{self, What};
+use crate::place_words::place_words;
 use crate::play::play;
 use crate::rules::performance;
 use crate::scatter;
@@ -181,6 +182,7 @@ pub fn words() -> (u64, u64) {
     scattered(&mut tally);
     odd_entries(&mut tally);
     text_words(&mut tally);
+    place_words(&mut tally);
     extended_words(&mut tally);
     graced_words(&mut tally);
     global_words(&mut tally);
