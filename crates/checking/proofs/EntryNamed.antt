@@ -35,7 +35,7 @@ use Rattle.contents.specs.declared.entries.Entry.{Entry}
 use Rattle.contents.specs.declared.entries.Entry.the-variants.{Nowhere, Contents, Event, Item, Message}
 use Rattle.wording.specs.Words.{faultPlaced, placed}
 use Rattle.refusals.specs.Entries.{entryOf}
-use Rattle.checking.proofs.FaultPlaces.{Standing, textTo, fault-of, no-fault, need-fault, event-fault, item-fault, message-fault}
+use Rattle.score.proofs.FaultPlaces.{Standing, textTo, fault-of, no-fault, need-fault, event-fault, item-fault, message-fault}
 
 -- Which entry is told of which fault, row by row. There is no row for NoMessage: the file check never finds it.
 pub data Named (f : List ℕ) : Fault → Entry → Type 0 where

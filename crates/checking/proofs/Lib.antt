@@ -4,7 +4,6 @@ pub mod RunLaws
 pub mod AccountLaws
 pub mod PartLaws
 pub mod LineLaws
-pub mod FaultPlaces
 pub mod EntryNamed
 pub mod LongRead
 pub mod OneOutcome

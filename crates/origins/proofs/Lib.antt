@@ -3,3 +3,13 @@ mod AimSteps
 mod LineSteps
 mod SeekSteps
 mod PlaceSteps
+pub mod Tails
+pub mod LineTokens
+pub mod PlaceLaws
+pub mod OriginLaws
+pub mod LabelFaults
+pub mod FaultOrigins
+pub mod WrittenTokens
+pub mod WrittenLines
+pub mod LineEntries
+pub mod EntryLines

@@ -81,7 +81,7 @@ module _ (p : Piece) (l : Fielded p) where
   unfolding countsIn
   at-text = rw (entries-size 0 (p .labels)) at (drop-on (encode p) (messagesAt (countsIn p)) (entryBytes 0 (p .labels)) _ at-messages)
 
-  entries : Entries (encode p) (countsIn p) (messagesAt (countsIn p)) 0 (p .labels) (textBytes (p .labels))
+  pub entries : Entries (encode p) (countsIn p) (messagesAt (countsIn p)) 0 (p .labels) (textBytes (p .labels))
   unfolding countsIn
   entries =
       let a : textAt (countsIn p) + 0 ≡ textAt (countsIn p) = omega arith in

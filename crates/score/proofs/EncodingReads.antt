@@ -81,7 +81,7 @@ pub record Entries (f : List ℕ) (c : Counts) (at from : ℕ) (ls : List (List 
   pub text : drop (textAt c + from) f ≡ textBytes ls
 
 module _ (f : List ℕ) (c : Counts) (at from : ℕ) (l : List ℕ) (ls : List (List ℕ)) (ys : List ℕ) (s : Entries f c at from (l ∷ ls) ys) where
-  text-whole : from + length l + length (textBytes ls) ≡ c .text
+  pub text-whole : from + length l + length (textBytes ls) ≡ c .text
   unfolding textBytes
   text-whole = omega (arith, length-append l (textBytes ls), s .whole)
 
@@ -92,13 +92,13 @@ module _ (f : List ℕ) (c : Counts) (at from : ℕ) (l : List ℕ) (ls : List (
   at-size : drop (at + 2) f ≡ le16 (length l) ++ (entryBytes (from + length l) ls ++ ys)
   at-size = u16-on f at _ _ at-start
 
-  start-read : u16At f at ≡ from
+  pub start-read : u16At f at ≡ from
   start-read = u16-read f at from _ (omega (arith, text-whole, s .few)) at-start
 
-  size-read : u16At f (at + 2) ≡ length l
+  pub size-read : u16At f (at + 2) ≡ length l
   size-read = u16-read f (at + 2) (length l) _ (omega (arith, text-whole, s .few)) at-size
 
-  text-read : part f (textAt c + from) (length l) ≡ l
+  pub text-read : part f (textAt c + from) (length l) ≡ l
   unfolding textBytes
   text-read = part-read f (textAt c + from) l (textBytes ls) (s .text)
 
@@ -120,7 +120,7 @@ module _ (f : List ℕ) (c : Counts) (at from : ℕ) (l : List ℕ) (ls : List (
     message-right =
         rw (size-read, text-read, label-size, label-readable, eq-eqb (u16At f at) from start-read, le-leb (from + length l) (c .text) (omega (arith, text-whole)))
 
-  next-entries : Entries f c (at + messageSize) (from + length l) ls ys
+  pub next-entries : Entries f c (at + messageSize) (from + length l) ls ys
   unfolding textBytes
   next-entries =
       let a : at + 2 + 2 ≡ at + messageSize = omega arith in

@@ -13,3 +13,4 @@ pub mod EncodingPieces
 pub mod LongFile
 pub mod Where7Stood
 pub mod BodyFaults
+pub mod FaultPlaces

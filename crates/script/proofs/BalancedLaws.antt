@@ -3,7 +3,7 @@
 use mathlib.Core.Path.{_≡_, refl}
 use mathlib.Core.Bool.{Bool, true, false}
 use mathlib.Core.List.{List, [], _∷_}
-use Prim.Native.Nat.{ℕ, zero, suc, _-_, _<_}
+use Prim.Native.Nat.{ℕ, zero, suc, _-_, _<_, _≤_}
 use native.Mathlib.Omega.{arith}
 use lib.ListN.{length}
 use lib.Dec.{eqb, ltb}
@@ -17,17 +17,17 @@ use Rattle.tokens.specs.Beats.{beats}
 use Rattle.text.specs.declared.Stage.{Stage}
 use Rattle.text.specs.declared.Stage.the-variants.{Start, Listing, Timed, Playing}
 use Rattle.text.specs.Words.{messagesWord, eventWord, partWord, sendWord, groupWord, messageField, partField, anyNumber}
-use Rattle.text.specs.Grammar.{Line, heading, message, event, part, send, group, close, pastWord, named, entry, timed, parted, sent, opened, synchronyAt, errorAt, erring, grouped, action, item, closed, line, after, further, deeper, shallower, mayEnd, isOver, Script, follow, script}
+use Rattle.text.specs.Grammar.{Line, heading, message, event, part, send, group, close, pastWord, named, entry, timed, parted, sent, opened, synchronyAt, errorAt, erring, grouped, action, item, closed, line, after, further, deeper, shallower, mayEnd, isOver, Script, done, more, fault, follow, script}
 use Rattle.text.specs.Said.{pieceOf, Reading, piece, unread, told, said}
 use Rattle.text.proofs.ScriptLaws.{line-shorter, script-follow}
-use Rattle.script.specs.declared.Tally.the-variants.{Counted}
+use Rattle.script.specs.declared.Tally.the-variants.{Counted, Faulty}
 use Rattle.script.specs.Tallies.{tallyOf}
 use Rattle.script.specs.Balanced.{BeforeEvent, behind-list, behind-event, behind-items, BeforePart, first-part, next-part, Balanced, ends, heads, lists, times, parts, sends, opens, closes}
 
 -- ---- the lines that a stage takes
 
 -- An item is a send or a group.
-data Itemed : Read Line → Type 0 where
+pub data Itemed : Read Line → Type 0 where
   sent-item : {d n : ℕ} {left : List ℕ} → Itemed (got (send d n) left)
   group-item : {d w v : ℕ} {left : List ℕ} → Itemed (got (group d w v) left)
   no-item : {left : List ℕ} → Itemed (stop left)
@@ -71,7 +71,7 @@ action-itemed delay bs = go (isWord sendWord bs) (isWord groupWord bs) where
   go false true = grouped-itemed delay (pastWord bs)
   go false false = no-item
 
-item-itemed : (bs : List ℕ) → Itemed (item bs)
+pub item-itemed : (bs : List ℕ) → Itemed (item bs)
 unfolding item
 item-itemed bs = onward-itemed (beats bs) (λ delay left. action-itemed delay (blanks left))
 
@@ -214,3 +214,19 @@ module _ (t : List ℕ) (c : Counts) (counted : Counted c ≡ tallyOf (said t)) 
   pub counts-said : c ≡ countsIn (pieceOf (script Start t))
   unfolding tallyOf
   counts-said = let f : Counted c ≡ Counted (countsIn (pieceOf (script Start t))) = rw counted-said at counted in let z : c ≡ countsIn (pieceOf (script Start t)) = cc in z
+
+-- ---- a text with a fault
+
+told-within : (size : ℕ) (p : Piece) (s : Script) (at : ℕ) → told size p s ≡ unread at → at ≤ size
+unfolding told
+told-within size p done at e = let z : _≡_ {A = ℕ} 0 1 = cc in absurd (omega arith)
+told-within size p (more l s) at e = told-within size p s at e
+told-within size p (fault left) at e = let z : size - length left ≡ at = cc in omega arith
+
+-- It lies in the text, or at its end.
+pub fault-within : (t : List ℕ) (at : ℕ) → Faulty at ≡ tallyOf (said t) → at ≤ length t
+unfolding said tallyOf
+fault-within t at e = go (said t) refl where
+  go : (r : Reading) → said t ≡ r → at ≤ length t
+  go (piece p) q = let z : Faulty at ≡ tallyOf (piece p) = rw q at e in let y : _≡_ {A = ℕ} 0 1 = cc in absurd (omega arith)
+  go (unread k) q = let z : Faulty at ≡ Faulty k = rw q at e in let y : at ≡ k = cc in rw y (told-within (length t) _ _ k q)

@@ -28,21 +28,21 @@ use Rattle.text.proofs.BeatsLaws.{beats-read}
 
 -- ---- bytes that begin with a digit
 
-data Led : List ℕ → Type 0 where
+pub data Led : List ℕ → Type 0 where
   led : {b : ℕ} {bs : List ℕ} → isDigit b ≡ true → Led (b ∷ bs)
 
 digits-led : {xs : List ℕ} (ys : List ℕ) → All isDigit xs → 1 ≤ length xs → Led (xs ++ ys)
 digits-led ys none p = absurd (omega arith)
 digits-led ys (one e a) p = led e
 
-decimal-led : (n : ℕ) (ys : List ℕ) → Led (decimal n ++ ys)
+pub decimal-led : (n : ℕ) (ys : List ℕ) → Led (decimal n ++ ys)
 decimal-led n ys = digits-led ys (decimal-all n) (decimal-some n)
 
-beats-led : (g : ℕ) (ys : List ℕ) → Led (beatsText g ++ ys)
+pub beats-led : (g : ℕ) (ys : List ℕ) → Led (beatsText g ++ ys)
 unfolding beatsText
 beats-led g ys = rw (append-assoc (decimal (numerator g)) (over (denominator g)) ys) (decimal-led (numerator g) _)
 
-led-solid : {bs : List ℕ} → Led bs → blanks bs ≡ bs
+pub led-solid : {bs : List ℕ} → Led bs → blanks bs ≡ bs
 unfolding isDigit
 led-solid (led {b = b} {bs = bs} e) = high-solid b bs (omega (arith, between-low zeroDigit nineDigit b e))
 
@@ -125,7 +125,7 @@ part-read n rest w p =
 
 -- ---- items
 
-indent-passed : (depth : ℕ) (ys : List ℕ) → blanks (indent depth ++ ys) ≡ blanks ys
+pub indent-passed : (depth : ℕ) (ys : List ℕ) → blanks (indent depth ++ ys) ≡ blanks ys
 unfolding indent
 indent-passed depth ys = blanks-spaces (4 + 2 * depth) ys
 
@@ -235,7 +235,7 @@ digit-plain : (b : ℕ) → isDigit b ≡ true → isPlain b ≡ true
 unfolding isDigit
 digit-plain b e = rw (ne-eqb b newline (λ q. omega (arith, between-low zeroDigit nineDigit b e)))
 
-digits-plain : {bs : List ℕ} → All isDigit bs → All isPlain bs
+pub digits-plain : {bs : List ℕ} → All isDigit bs → All isPlain bs
 digits-plain none = none
 digits-plain (one {b = b} e a) = one (digit-plain b e) (digits-plain a)
 

@@ -117,7 +117,7 @@ module _ (p : Piece) (lawful : Lawful p) where
       page-says (p .labels) (length (p .durations)) (suc (length (p .durations) + length (p .items))) 0 0 (p .durations) (p .items) on-page (durations-fit eventsAt (p .durations) (lawful .durations))
       (omega arith) (omega arith)
 
-  nested : Nested (p .labels) Start outset (lines p)
+  pub nested : Nested (p .labels) Start outset (lines p)
   unfolding lines after behindLine countsIn
   nested =
       goes may-head

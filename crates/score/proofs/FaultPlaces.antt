@@ -38,7 +38,7 @@ module _ {X : Type 0} where
   unfolding firstFault
   no-fault x P e = let z : _≡_ {A = ℕ} 0 1 = cc in absurd (omega arith)
 
-  need-wrong : (b : Bool) (x y : X) → need b y ≡ refused x → b ≡ false
+  pub need-wrong : (b : Bool) (x y : X) → need b y ≡ refused x → b ≡ false
   unfolding need
   need-wrong true x y e = let z : _≡_ {A = ℕ} 0 1 = cc in absurd (omega arith)
   need-wrong false x y e = refl
