@@ -21,7 +21,7 @@ use Rattle.score.specs.File.{bodiesRight, checked}
 use Rattle.session.specs.Replies.{refusalRow}
 use Rattle.wording.specs.Words.{ruleWords, faultWords, refusalWords, faultPlaced, placed}
 use Rattle.contents.specs.Entries.{entryAt}
-use Rattle.refusals.specs.Entries.{entryOf, fieldWords, entryWords, ruleField, faultField, refusalField, namedWords}
+use Rattle.refusals.specs.Entries.{entryOf, fieldWords, isEntry, nameWords, entryWords, ruleField, faultField, refusalField, namedWords}
 use Rattle.refusals.specs.Line.{atByte, placeWords, whereWords, refusalLine}
 use Rattle.checking.specs.Tallies.{actionsIn, uses, partsIn}
 use Rattle.checking.specs.Checked.{listed, partsTold, countsTold, acceptedLine, lineBy, checkedLine}
@@ -45,7 +45,7 @@ small =
     ∷ []
 
 pub small-accepted : checkedLine (bytesOf "small") small ≡ bytesOf "small: accepted, 3 events, 3 items, 2 actions, 2 messages, parts 0\n"
-unfolding small checkedLine lineBy checked bodiesRight countsOf offsetsOf u16At u32At countsRight offsetsRight eventsRight durationsAt itemsRight walked walkOf onward onFrom walkFault itemRight synchronyRight errorRight partRight eventRight inOrder nestingRight numberRight actionsRight withinOf ownOf next inside itemAt itemsFrom messagesRight messageRight readable labelByte byRange part decode firstFault need every between pick acceptedLine countsTold listed partsTold actionsIn uses partsIn only decimal digitsOf refusalLine whereWords placeWords atByte refusalRow faultRow ruleRow refusalWords faultWords ruleWords placed faultPlaced entryOf entryAt entryWords fieldWords namedWords refusalField faultField ruleField
+unfolding small checkedLine lineBy checked bodiesRight countsOf offsetsOf u16At u32At countsRight offsetsRight eventsRight durationsAt itemsRight walked walkOf onward onFrom walkFault itemRight synchronyRight errorRight partRight eventRight inOrder nestingRight numberRight actionsRight withinOf ownOf next inside itemAt itemsFrom messagesRight messageRight readable labelByte byRange part decode firstFault need every between pick acceptedLine countsTold listed partsTold actionsIn uses partsIn only decimal digitsOf refusalLine whereWords placeWords atByte refusalRow faultRow ruleRow refusalWords faultWords ruleWords placed faultPlaced entryOf entryAt isEntry nameWords entryWords fieldWords namedWords refusalField faultField ruleField
 small-accepted = refl
 
 -- The same with one byte of an item changed, for each rule but the last: the group, at byte 44, then its two actions, at 56 and 68.
@@ -80,5 +80,5 @@ pub small-bad-items : changed 44 2
     ∷ bytesOf "small: refused 25 at byte 54, item 0, last: an item's nesting, at depth 9 or a group that ends past what holds it\n"
     ∷ bytesOf "small: refused 26 at byte 78, item 2, last: an action's message number, not below the message count\n"
     ∷ []
-unfolding small changed checkedLine lineBy checked bodiesRight countsOf offsetsOf u16At u32At countsRight offsetsRight eventsRight durationsAt itemsRight walked walkOf onward onFrom walkFault itemRight synchronyRight errorRight partRight eventRight inOrder nestingRight numberRight actionsRight withinOf ownOf next inside itemAt itemsFrom messagesRight messageRight readable labelByte byRange part decode firstFault need every between pick acceptedLine countsTold listed partsTold actionsIn uses partsIn only decimal digitsOf refusalLine whereWords placeWords atByte refusalRow faultRow ruleRow refusalWords faultWords ruleWords placed faultPlaced entryOf entryAt entryWords fieldWords namedWords refusalField faultField ruleField
+unfolding small changed checkedLine lineBy checked bodiesRight countsOf offsetsOf u16At u32At countsRight offsetsRight eventsRight durationsAt itemsRight walked walkOf onward onFrom walkFault itemRight synchronyRight errorRight partRight eventRight inOrder nestingRight numberRight actionsRight withinOf ownOf next inside itemAt itemsFrom messagesRight messageRight readable labelByte byRange part decode firstFault need every between pick acceptedLine countsTold listed partsTold actionsIn uses partsIn only decimal digitsOf refusalLine whereWords placeWords atByte refusalRow faultRow ruleRow refusalWords faultWords ruleWords placed faultPlaced entryOf entryAt isEntry nameWords entryWords fieldWords namedWords refusalField faultField ruleField
 small-bad-items = refl

@@ -18,7 +18,7 @@ use Rattle.session.specs.Replies.{refusalRow}
 use Rattle.ascii.specs.Text.{bytesOf}
 use Rattle.wording.specs.Words.{refusalWords, placed}
 use Rattle.contents.specs.declared.entries.Entry.{Entry}
-use Rattle.refusals.specs.Entries.{entryOf, namedWords}
+use Rattle.refusals.specs.Entries.{entryOf, comma, namedWords}
 use Rattle.refusals.specs.Line.{atByte, placeWords, placeRoom, whereWords, refusalLine}
 
 -- ---- the place
@@ -34,7 +34,7 @@ module _ (o : List ℕ) (at : ℕ) (x : Refusal) (t : Bool) (e : t ≡ placed x)
 
 pub ruleset places = (place-told, place-none, needs)
 
-pub lay-where : (o m n file : List ℕ) (at a r : ℕ) (x : Refusal) (entry : Entry) → entry ≡ entryOf file x → Laid o at (placeWords x) m a → Laid m a (namedWords entry x) n r → Laid o at (whereWords file x) n r
+pub lay-where : (o m n file : List ℕ) (at a r : ℕ) (x : Refusal) (entry : Entry) → entry ≡ entryOf file x → Laid o at (placeWords x) m a → Laid m a (namedWords comma entry x) n r → Laid o at (whereWords file x) n r
 unfolding whereWords
 lay-where o m n file at a r x entry e p q = rw (← e) (laid-join o m n _ _ at a r p q)
 

@@ -23,7 +23,7 @@ use Rattle.unfolding.specs.Replies.{unfoldRow}
 use Rattle.wording.specs.Words.{unfoldingWords}
 use Rattle.contents.specs.declared.entries.Entry.{Entry}
 use Rattle.contents.specs.declared.entries.Entry.the-variants.{Nowhere, Item}
-use Rattle.refusals.specs.Entries.{entryWords, entryRoom}
+use Rattle.refusals.specs.Entries.{comma, entryWords, entryRoom}
 use Rattle.refusals.specs.Line.{atByte, placeRoom}
 use Rattle.refusals.specs.Unfolds.{foldedEntry, foldedPlace, foldedWhere, foldedEnd, foldedLine}
 
@@ -62,7 +62,7 @@ unfolding foldedPlace
 place-none o f at place e p = rw e (laid-nothing o at (omega arith))
 
 pub place-told : (o m n f : List ℕ) (at a r place : ℕ) (entry : Entry) → (place ≡ 0 → ⊥) → entry ≡ foldedEntry f place → Laid o at (bytesOf " at byte " ++ decimal place) m a
-    → Laid m a (entryWords entry) n r → Laid o at (foldedPlace f place) n r
+    → Laid m a (entryWords comma entry) n r → Laid o at (foldedPlace f place) n r
 unfolding foldedPlace atByte
 place-told o m n f at a r zero entry z e p q = absurd (z refl)
 place-told o m n f at a r (suc k) entry z e p q = rw (← e) (laid-join o m n _ _ at a r p q)

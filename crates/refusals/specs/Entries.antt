@@ -1,5 +1,6 @@
 -- The entry of a score file at fault, its name for people, and the name of the field that an item's rule is about.
 use Prim.Native.Nat.{ℕ}
+use mathlib.Core.Bool.{Bool, true, false}
 use mathlib.Core.List.{List, [], _∷_, _++_}
 use lib.Dec.{leb}
 use lib.ListN.{length, getD}
@@ -27,14 +28,14 @@ entryOf f x = pick (placed x) (pick (leb contentsSize (length f)) (entryAt (coun
 -- The names of the contents' fields, in their order.
 unfoldable pub fieldWords : List (List ℕ)
 fieldWords =
-    bytesOf ", offset of the events"
-    ∷ bytesOf ", count of events"
-    ∷ bytesOf ", offset of the items"
-    ∷ bytesOf ", count of items"
-    ∷ bytesOf ", offset of the messages"
-    ∷ bytesOf ", count of messages"
-    ∷ bytesOf ", offset of the text"
-    ∷ bytesOf ", count of text bytes"
+    bytesOf " offset of the events"
+    ∷ bytesOf " count of events"
+    ∷ bytesOf " offset of the items"
+    ∷ bytesOf " count of items"
+    ∷ bytesOf " offset of the messages"
+    ∷ bytesOf " count of messages"
+    ∷ bytesOf " offset of the text"
+    ∷ bytesOf " count of text bytes"
     ∷ []
 
 -- How many they are.
@@ -42,12 +43,32 @@ abbrev pub fieldCount : ℕ
 fieldCount = 8
 
 -- An entry's name, and room for it: its word, and a number of 20 digits.
-unfoldable pub entryWords : Entry → List ℕ
-entryWords Nowhere = []
-entryWords (Contents k) = getD fieldWords k []
-entryWords (Event n) = bytesOf ", event " ++ decimal n
-entryWords (Item n) = bytesOf ", item " ++ decimal n
-entryWords (Message n) = bytesOf ", message " ++ decimal n
+unfoldable pub nameWords : Entry → List ℕ
+nameWords Nowhere = []
+nameWords (Contents k) = getD fieldWords k []
+nameWords (Event n) = bytesOf " event " ++ decimal n
+nameWords (Item n) = bytesOf " item " ++ decimal n
+nameWords (Message n) = bytesOf " message " ++ decimal n
+
+abbrev pub nameRoom : ℕ
+nameRoom = 29
+
+unfoldable pub isEntry : Entry → Bool
+isEntry Nowhere = false
+isEntry (Contents k) = true
+isEntry (Event n) = true
+isEntry (Item n) = true
+isEntry (Message n) = true
+
+-- The name behind a mark, which is a comma or a colon, and room for both; nothing where there is no entry.
+unfoldable pub entryWords : (mark : ℕ) → Entry → List ℕ
+entryWords m e = pick (isEntry e) (m ∷ nameWords e) []
+
+abbrev pub comma : ℕ
+comma = 44
+
+abbrev pub colon : ℕ
+colon = 58
 
 abbrev pub entryRoom : ℕ
 entryRoom = 30
@@ -92,8 +113,8 @@ refusalField BadMillis = []
 refusalField ClockFull = []
 
 -- An entry and the field of it that is at fault, as `, item 6, delay`, and room for both.
-unfoldable pub namedWords : Entry → Refusal → List ℕ
-namedWords e x = entryWords e ++ refusalField x
+unfoldable pub namedWords : (mark : ℕ) → Entry → Refusal → List ℕ
+namedWords m e x = entryWords m e ++ refusalField x
 
 abbrev pub namedRoom : ℕ
 namedRoom = 42

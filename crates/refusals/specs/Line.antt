@@ -8,7 +8,7 @@ use Rattle.session.specs.declared.Refusal.{Refusal}
 use Rattle.session.specs.Replies.{refusalRow}
 use Rattle.ascii.specs.Text.{bytesOf}
 use Rattle.wording.specs.Words.{refusalWords, placed}
-use Rattle.refusals.specs.Entries.{entryOf, namedWords}
+use Rattle.refusals.specs.Entries.{entryOf, comma, namedWords}
 
 -- A place in the file, and room for it: its word, and a number of 20 digits.
 unfoldable pub atByte : ℕ → List ℕ
@@ -23,7 +23,7 @@ placeWords x = pick (placed x) (atByte (refusalRow x .place)) []
 
 -- The place, the entry that it lies in, and an item's field, as ` at byte 120, item 6, delay`.
 unfoldable pub whereWords : (file : List ℕ) → Refusal → List ℕ
-whereWords file x = placeWords x ++ namedWords (entryOf file x) x
+whereWords file x = placeWords x ++ namedWords comma (entryOf file x) x
 
 -- What is refused, then the table's row: number, place and words.
 unfoldable pub refusalLine : (name file : List ℕ) → Refusal → List ℕ

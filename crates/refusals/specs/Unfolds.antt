@@ -15,7 +15,7 @@ use Rattle.unfolding.specs.Replies.{unfoldRow}
 use Rattle.wording.specs.Words.{unfoldingWords}
 use Rattle.contents.specs.declared.entries.Entry.{Entry}
 use Rattle.contents.specs.declared.entries.Entry.the-variants.{Nowhere, Item}
-use Rattle.refusals.specs.Entries.{entryWords}
+use Rattle.refusals.specs.Entries.{comma, entryWords}
 use Rattle.refusals.specs.Line.{atByte}
 
 -- The item that a byte behind the events lies in, by its page place, as it is counted in a score file.
@@ -28,7 +28,7 @@ foldedEntry f place =
 -- The place in the extended score and its item. Bad contents have place 0, and none is told.
 unfoldable pub foldedPlace : (extended : List ℕ) → (place : ℕ) → List ℕ
 foldedPlace f zero = []
-foldedPlace f (suc k) = atByte (suc k) ++ entryWords (foldedEntry f (suc k))
+foldedPlace f (suc k) = atByte (suc k) ++ entryWords comma (foldedEntry f (suc k))
 
 unfoldable pub foldedWhere : (extended : List ℕ) → Unfolding → List ℕ
 foldedWhere f (Made n) = []

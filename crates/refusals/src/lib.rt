@@ -1,5 +1,6 @@
 // A refusal told to people, laid out on lent bytes: its line, with the entry at fault.
 pub use line::refusal_line;
+pub use texts::misfit_line;
 pub use texts::misread_line;
 pub use texts::room_line;
 pub use texts::unmade_line;

@@ -4,6 +4,7 @@ ghost use lib.ListN.{length};
 ghost use Rattle.ascii.specs.Laying.{Laid};
 ghost use Rattle.refusals.specs.Entries.{namedRoom};
 ghost use Rattle.refusals.specs.Line.{placeWords, placeRoom, whereWords, refusalLine, refusalRoom};
+use crate::entries::COMMA;
 use crate::entries::entry_of;
 use crate::entries::put_named;
 use ascii::NEWLINE;
@@ -33,7 +34,7 @@ fn put_where(out: &mut [u8], at: usize, file: &[u8], x: Refusal) -> usize
     ensures { λ r. ⌜ Laid (now (out .entry)) at (whereWords (now (file .entry)) x) (now (out .exit)) r × (r ≤ at + placeRoom + namedRoom) ⌝ }
 {
     let at = put_place(out, at, x);
-    put_named(out, at, entry_of(file, x), x)
+    put_named(out, at, COMMA, entry_of(file, x), x)
 }
 
 // The line of a refusal from the front of `out`: what is refused, the number, the place with its entry in `file`, and the words. Answers its length.

@@ -7,6 +7,7 @@ ghost use Rattle.refusals.specs.Entries.{entryRoom};
 ghost use Rattle.refusals.specs.Line.{placeRoom};
 ghost use Rattle.refusals.specs.Texts.{endRoom, textLineRoom};
 ghost use Rattle.refusals.specs.Unfolds.{foldedEntry, foldedPlace, foldedWhere, foldedEnd, foldedLine};
+use crate::entries::COMMA;
 use crate::entries::put_entry;
 use ascii::NEWLINE;
 use ascii::put_byte;
@@ -45,7 +46,7 @@ fn put_folded_place(out: &mut [u8], at: usize, extended: &[u8], place: usize) ->
         return at;
     }
     let at = put_counted(out, at, b" at byte ", place);
-    put_entry(out, at, folded_entry(extended, place))
+    put_entry(out, at, COMMA, folded_entry(extended, place))
 }
 
 fn put_folded_where(out: &mut [u8], at: usize, extended: &[u8], u: Unfolding) -> usize

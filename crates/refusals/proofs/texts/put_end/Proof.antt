@@ -12,5 +12,6 @@ put-end-spec =
     (λ c κs. search telling)
     (λ c κs. search telling)
     (λ c κs. search telling)
+    (λ c κs. search telling)
     (λ c. search telling)
     (λ c. search telling))

@@ -12,5 +12,6 @@ put-told-end-spec =
     (λ c κs. search telling)
     (λ c κs. search telling)
     (λ c κs. search telling)
+    (λ c κs. search telling)
     (λ c. search telling)
     (λ c. search telling))

@@ -10,6 +10,5 @@ unmade-line-spec =
     (tie.spec
     (λ c κs. search telling)
     (λ c κs. search telling)
-    (λ c κs. search telling)
     (λ c. search telling)
     (λ c. search telling))
