@@ -12,7 +12,7 @@ use Rattle.base.specs.Tests.{pick, between}
 use Rattle.base.specs.Checks.{Check, fine, refused}
 use Rattle.base.proofs.TestLaws.{between-in}
 use Rattle.contents.specs.declared.Fault.{Fault}
-use Rattle.contents.specs.declared.Fault.the-variants.{BadCount, BadEvent, BadMessage}
+use Rattle.contents.specs.declared.Fault.the-variants.{BadCount, BadEvent, BadMessage, TextLeft}
 use Rattle.contents.specs.declared.ItemRule.{ItemRule}
 use Rattle.contents.specs.Limits.{eventSize, itemSize, messageSize, longest, longestScore, mostEvents, mostItems, mostMessages, mostText}
 use Rattle.contents.specs.Contents.{countsRight, eventsAt, itemsAt, messagesAt}
@@ -187,3 +187,18 @@ shown-placed {t} (message n b w r k) = token-placed t k
 pub fault-in-text : (room : ℕ) (t : List ℕ) (x : Fault) → readAnswer room t ≡ BadFile x → InText t (placeInText t (faultRow x .place))
 unfolding placeInText
 fault-in-text room t x e = shown-placed (fault-shown room t x e .shown)
+
+-- ---- "entries right, text not used up" never comes from a text
+
+not-text-left : {t : List ℕ} {p : Piece} {x : Fault} {o : Origin} → Shown t p x o → x ≡ TextLeft → ⊥
+not-text-left (no-event n k) e = let z : _≡_ {A = ℕ} 0 1 = cc in omega arith
+not-text-left (many-events b k) e = let z : _≡_ {A = ℕ} 0 1 = cc in omega arith
+not-text-left (many-items b k) e = let z : _≡_ {A = ℕ} 0 1 = cc in omega arith
+not-text-left (many-messages b k) e = let z : _≡_ {A = ℕ} 0 1 = cc in omega arith
+not-text-left (much-text b k) e = let z : _≡_ {A = ℕ} 0 1 = cc in omega arith
+not-text-left (event n b w r k) e = let z : _≡_ {A = ℕ} 0 1 = cc in omega arith
+not-text-left (item n b h l a s r w k) e = let z : _≡_ {A = ℕ} 0 1 = cc in omega arith
+not-text-left (message n b w r k) e = let z : _≡_ {A = ℕ} 0 1 = cc in omega arith
+
+pub never-text-left : (room : ℕ) (t : List ℕ) → readAnswer room t ≡ BadFile TextLeft → ⊥
+never-text-left room t e = not-text-left (fault-shown room t TextLeft e .shown) refl

@@ -13,3 +13,5 @@ pub mod WrittenTokens
 pub mod WrittenLines
 pub mod LineEntries
 pub mod EntryLines
+pub mod OneOutcome
+pub mod Examples
