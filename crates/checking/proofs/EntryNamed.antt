@@ -3,18 +3,16 @@
 use mathlib.Core.Path.{_≡_, refl}
 use mathlib.Core.Bool.{true, false}
 use mathlib.Core.List.{List}
-use Prim.Native.Nat.{ℕ, _+_, _-_, _*_, _/_, _<_}
+use Prim.Native.Nat.{ℕ, _+_, _-_, _*_, _<_}
 use native.Mathlib.Omega.{arith}
 use lib.ListN.{length, getD}
 use lib.Dec.{leb}
-use borrow.Author.Tests.{lt-ltb, le-ltb}
 use Rattle.base.specs.Tests.{pick, between}
 use Rattle.base.specs.Checks.{refused}
 use Rattle.base.proofs.CheckLaws.{need-fine}
 use Rattle.contents.specs.declared.Fault.{Fault}
 use Rattle.contents.specs.declared.Fault.the-variants.{FileShort, BadCount, BadOffset, BadLength, BadEvent, BadMessage, TextLeft, NoMessage}
 use Rattle.contents.specs.declared.ItemRule.{ItemRule}
-use Rattle.contents.specs.declared.Counts.{Counts}
 use Rattle.contents.specs.Limits.{contentsSize, eventSize, itemSize, messageSize, longest}
 use Rattle.contents.specs.Contents.{countsOf, offsetsOf, countsRight, offsetsRight, eventsAt, itemsAt, messagesAt}
 use Rattle.contents.specs.Replies.{faultRow}

@@ -11,13 +11,13 @@ use Rattle.ascii.specs.Numbers.{isDigit, valueFrom, value}
 use Rattle.contents.specs.declared.Fault.the-variants.{FileShort, BadItem, BadMessage, NoMessage}
 use Rattle.contents.specs.declared.ItemRule.the-variants as rule
 use Rattle.tokens.specs.Bytes.{isBlank, isLetter, isEscaped}
-use Rattle.tokens.specs.Tokens.{onward, pastBlanks, leading, behind, isWord, isNumber, number, withByte, labelFrom, label}
+use Rattle.tokens.specs.Tokens.{leftBy, onward, pastBlanks, leading, behind, isWord, isNumber, number, withByte, labelFrom, label}
 use Rattle.tokens.specs.Beats.{isFraction, valued, fraction, beats}
 use Rattle.text.specs.Grammar.{pastWord, named, entry, timed, parted, sent, opened, synchronyAt, errorAt, erring, grouped, action, item, closed, line, further, deeper, shallower, after, mayEnd, isOver, follow, scriptFrom, script}
 use Rattle.text.specs.Said.{Reading, unread, told, said}
 use Rattle.hints.specs.declared.Hint.{Hint}
 use Rattle.hints.specs.declared.Hint.the-variants.{Unhinted, ByteOrderMark, Capitals, NoList, WordOrder, InnerPart, InnerEvent, Decimal, Mixed, Uneven, PastList}
-use Rattle.hints.specs.Hints.{isOneOf, groupWords, allWords, lowered, allLowered, isCapital, byteOrderMark, isPoint, isGot, leftOf, isFractional, isFirst, isMark, isDecimal, isMixed, isUneven, hintAt, ruleHint, faultHint}
+use Rattle.hints.specs.Hints.{isOneOf, groupWords, allWords, lowered, allLowered, isCapital, byteOrderMark, isPoint, isGot, isFractional, isFirst, isMark, isDecimal, isMixed, isUneven, hintAt, ruleHint, faultHint}
 
 -- A text, the byte that can't be, and its hint.
 abbrev Row : Type 0
@@ -66,7 +66,7 @@ unfolding pick every between begins same valueFrom value isBlank isDigit isLette
 hinted-stop = refl
 
 pub hinted : map hintOf hintedRows ≡ map hintIn hintedRows
-unfolding pick every between begins same valueFrom value isBlank isDigit isLetter onward pastBlanks leading behind isWord isNumber number isFraction valued fraction beats isOneOf groupWords allWords lowered allLowered isCapital isPoint isGot leftOf isFractional isFirst isMark isDecimal isMixed isUneven hintAt
+unfolding pick every between begins same valueFrom value isBlank isDigit isLetter onward pastBlanks leading behind isWord isNumber number isFraction valued fraction beats isOneOf groupWords allWords lowered allLowered isCapital isPoint isGot leftBy isFractional isFirst isMark isDecimal isMixed isUneven hintAt
 hinted = refl
 
 -- ---- near misses
@@ -89,7 +89,7 @@ unfolding pick every between begins same valueFrom value isBlank isDigit isLette
 near-stop = refl
 
 pub near : map hintOf nearRows ≡ map hintIn nearRows
-unfolding pick every between begins same valueFrom value isBlank isDigit isLetter onward pastBlanks leading behind isWord isNumber number isFraction valued fraction beats isOneOf groupWords allWords lowered allLowered isCapital isPoint isGot leftOf isFractional isFirst isMark isDecimal isMixed isUneven hintAt
+unfolding pick every between begins same valueFrom value isBlank isDigit isLetter onward pastBlanks leading behind isWord isNumber number isFraction valued fraction beats isOneOf groupWords allWords lowered allLowered isCapital isPoint isGot leftBy isFractional isFirst isMark isDecimal isMixed isUneven hintAt
 near = refl
 
 -- ---- what the file check refuses

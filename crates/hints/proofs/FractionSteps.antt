@@ -15,11 +15,11 @@ use Rattle.ascii.specs.Numbers.{isDigit}
 use Rattle.ascii.proofs.WordSteps.{drop-next}
 use Rattle.tokens.specs.declared.Token.{Token}
 use Rattle.tokens.specs.Bytes.{slash}
-use Rattle.tokens.specs.Tokens.{Read, got, stop, number}
+use Rattle.tokens.specs.Tokens.{leftBy, Read, got, stop, number}
 use Rattle.tokens.specs.Beats.{field, beats}
 use Rattle.tokens.specs.Asked.{Reads}
 use Rattle.tokens.proofs.ShorterLaws.{read-got, read-stop}
-use Rattle.hints.specs.Hints.{isGot, leftOf, isFractional, isMixed, isUneven}
+use Rattle.hints.specs.Hints.{isGot, isFractional, isMixed, isUneven}
 
 -- Whether a token was read, and the bytes left behind it.
 reads-got : (t : List ℕ) (limit : ℕ) (what : Read ℕ) (v : Token) → Reads t limit what v → v .read ≡ isGot what
@@ -44,7 +44,7 @@ module _ (t : List ℕ) (at : ℕ) (v : Token) (first : Reads t field (number fi
     numbered = sym (first .says) ∙ read-got t v (not-false (v .read) some)
 
     behind : (r : Bool) → r ≡ every (begins (slash ∷ []) (drop (v .next) t) ∷ isGot (number field (drop 1 (drop (v .next) t))) ∷ []) → r ≡ isFractional (drop at t)
-    unfolding isFractional isGot leftOf every
+    unfolding isFractional isGot leftBy every
     behind r e = rw numbered e
 
     pub fractional-end : length t ≤ v .next → false ≡ isFractional (drop at t)

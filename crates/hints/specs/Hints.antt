@@ -13,7 +13,7 @@ use Rattle.contents.specs.declared.Fault.the-variants.{FileShort, BadCount, Bad
 use Rattle.contents.specs.declared.ItemRule.{ItemRule}
 use Rattle.contents.specs.declared.ItemRule.the-variants as rule
 use Rattle.tokens.specs.Bytes.{slash}
-use Rattle.tokens.specs.Tokens.{Read, got, stop, blanks, isWord, number}
+use Rattle.tokens.specs.Tokens.{Read, got, stop, leftBy, blanks, isWord, number}
 use Rattle.tokens.specs.Beats.{field, beats}
 use Rattle.text.specs.Words.{messagesWord, eventWord, partWord, sendWord, groupWord, looseWord, tightWord, localWord, globalWord, partialWord, causalWord}
 use Rattle.hints.specs.declared.Hint.{Hint}
@@ -79,17 +79,13 @@ unfoldable pub isGot : Read ℕ → Bool
 isGot (got n left) = true
 isGot (stop left) = false
 
-unfoldable pub leftOf : Read ℕ → List ℕ
-leftOf (got n left) = left
-leftOf (stop left) = left
-
 -- number "/" number, whatever its value.
 unfoldable pub isFractional : List ℕ → Bool
 isFractional bs =
     every (
     isGot (number field bs)
-    ∷ begins (slash ∷ []) (leftOf (number field bs))
-    ∷ isGot (number field (drop 1 (leftOf (number field bs))))
+    ∷ begins (slash ∷ []) (leftBy (number field bs))
+    ∷ isGot (number field (drop 1 (leftBy (number field bs))))
     ∷ []
     )
 

@@ -1,14 +1,13 @@
 -- What is looked for, by its case and the line's share of it, in the code's own terms; and that it is what the definitions ask for.
 -- Assumes nothing.
-use mathlib.Core.Path.{_≡_, refl, sym, ap}
-use mathlib.Core.Bool.{Bool, true, false}
-use mathlib.Core.List.{List, [], _∷_}
-use Prim.Native.Nat.{ℕ, zero, suc, _-_, _<_, _≤_}
+use mathlib.Core.Path.{_≡_, refl}
+use mathlib.Core.Bool.{Bool, false}
+use Prim.Native.Nat.{ℕ, zero, suc, _-_, _<_}
 use native.Mathlib.Omega.{arith}
-use lib.Dec.{eqb, ltb}
-use lib.ListN.{length, getD, List·getD-eq-default}
+use lib.Dec.{ltb}
+use lib.ListN.{getD}
 use borrow.Author.Needs.{needs}
-use borrow.Author.Tests.{eq-eqb, ne-eqb, lt-ltb, le-ltb}
+use borrow.Author.Tests.{eq-eqb, ne-eqb}
 use Rattle.base.specs.Tests.{pick}
 use Rattle.contents.specs.declared.Counts.{Counts}
 use Rattle.contents.specs.declared.entries.Entry.{Entry}
@@ -18,8 +17,8 @@ use Rattle.origins.specs.declared.aims.Table.{Table}
 use Rattle.origins.specs.declared.aims.Table.the-variants.{Events, Items, Messages, Text}
 use Rattle.origins.specs.declared.aims.Aim.{Aim}
 use Rattle.origins.specs.declared.aims.Aim.the-variants.{Nothing, TextEnd, ListEnd, Past}
-use Rattle.origins.specs.Origins.{Placed, adds, countOf, tokenIn, isListed, Origin, unmade, from, passing, listEnd, contentsOrigins, originIn}
-use Rattle.origins.specs.Aims.{eventAim, fieldAims, aimAt, shareOf, hitsIn, aimBehind, endedAs, soughtIn}
+use Rattle.origins.specs.Origins.{countOf}
+use Rattle.origins.specs.Aims.{eventAim, fieldAims, aimAt, shareOf, hitsIn, aimBehind}
 
 -- ---- a count
 

@@ -11,11 +11,11 @@ use Rattle.contents.specs.Entries.{entryAt}
 use Rattle.score.specs.Encode.{textBytes, countsIn}
 use Rattle.tokens.specs.declared.Place.{Place}
 use Rattle.tokens.specs.Bytes.{isBlank, isLetter, isEscaped}
-use Rattle.tokens.specs.Tokens.{onward, pastBlanks, leading, behind, isWord, isNumber, number, withByte, labelFrom, label}
+use Rattle.tokens.specs.Tokens.{leftBy, onward, pastBlanks, leading, behind, isWord, isNumber, number, withByte, labelFrom, label}
 use Rattle.tokens.specs.Places.{placeFrom, placeBehind}
 use Rattle.text.specs.Grammar.{named, entry, line, further, after, mayEnd, isOver, follow, scriptFrom, script}
 use Rattle.text.specs.Said.{labelsOf, durationsOf, itemsOf, pieceOf, told, said}
-use Rattle.origins.specs.Origins.{leftBy, placedLines, adds, countOf, tokenIn, isListed, passing, listEnd, contentsOrigins, originIn, originOf, placeOf, placeInText}
+use Rattle.origins.specs.Origins.{placedLines, adds, countOf, tokenIn, isListed, passing, listEnd, contentsOrigins, originIn, originOf, placeOf, placeInText}
 
 -- A place in the file, and line and column of what made it.
 abbrev Row : Type 0

@@ -9,13 +9,13 @@ use borrow.Author.Needs.{needs}
 use Rattle.base.specs.Tests.{pick}
 use Rattle.contents.specs.declared.Counts.{Counts}
 use Rattle.tokens.specs.declared.Token.{Token}
-use Rattle.tokens.specs.Tokens.{Read, got, stop, blanks, number}
+use Rattle.tokens.specs.Tokens.{leftBy, Read, got, stop, blanks, number}
 use Rattle.tokens.specs.Asked.{asRead, Reads, Passes}
 use Rattle.text.specs.Words.{anyNumber}
 use Rattle.script.specs.declared.Found.{Found}
 use Rattle.script.specs.declared.Found.the-variants.{Heading, Message, Event, Part, Send, Group, Close, Fault}
-use Rattle.script.specs.Steps.{lineIn, isFault, Fits, fits-message}
-use Rattle.origins.specs.Origins.{leftBy, adds, tokenIn, isListed}
+use Rattle.script.specs.Steps.{lineIn, Fits, fits-message}
+use Rattle.origins.specs.Origins.{adds, tokenIn, isListed}
 use Rattle.origins.specs.Aims.{addedBy, listedIn, Begins}
 
 -- ---- what it adds

@@ -9,14 +9,14 @@ use lib.Dec.{eqb}
 use lib.ListN.{length, drop}
 use Rattle.base.specs.Tests.{pick}
 use Rattle.tokens.specs.Bytes.{closing, isLetter}
-use Rattle.tokens.specs.Tokens.{Read, got, stop, onward, blanks, behind, isWord, number, label}
+use Rattle.tokens.specs.Tokens.{leftBy, Read, got, stop, onward, blanks, behind, isWord, number, label}
 use Rattle.tokens.specs.Beats.{beats}
 use Rattle.text.specs.declared.Stage.{Stage}
 use Rattle.text.specs.declared.Stage.the-variants.{Start, Listing, Timed, Playing}
 use Rattle.text.specs.Words.{messagesWord, eventWord, partWord, partField, anyNumber}
 use Rattle.text.specs.Grammar.{Line, heading, message, event, part, send, group, close, pastWord, named, entry, timed, parted, item, closed, line, after, isOver, Script, done, more, fault, follow, scriptFrom, script}
 use Rattle.script.proofs.BalancedLaws.{Itemed, sent-item, group-item, no-item, item-itemed}
-use Rattle.origins.specs.Origins.{Placed, leftBy, placedLines, tokenIn, Origin, from}
+use Rattle.origins.specs.Origins.{Placed, placedLines, tokenIn, Origin, from}
 use Rattle.origins.proofs.Tails.{Tail, whole, later, tail-on, Leaves, leaves, halts, blanks-tail, number-tail, line-leaves}
 
 -- ---- a token of a text

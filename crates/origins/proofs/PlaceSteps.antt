@@ -30,7 +30,7 @@ use Rattle.origins.specs.declared.aims.Aim.{Aim}
 use Rattle.origins.specs.declared.aims.Aim.the-variants.{Nothing, TextEnd, ListEnd, Past}
 use Rattle.origins.specs.declared.seeking.Sought.{Sought}
 use Rattle.origins.specs.declared.seeking.Sought.the-variants as sought
-use Rattle.origins.specs.Origins.{Placed, placedLines, adds, countOf, tokenIn, isListed, Origin, unmade, from, passing, listEnd, contentsOrigins, originIn, originOf, placeOf, placeInText}
+use Rattle.origins.specs.Origins.{Placed, placedLines, adds, countOf, tokenIn, Origin, unmade, from, passing, listEnd, contentsOrigins, originIn, originOf, placeOf, placeInText}
 use Rattle.origins.specs.Aims.{noPlace, Says, eventAim, fieldAims, aimAt, shareOf, hitsIn, aimBehind, endedAs, soughtIn, originAs, Lies, lies-nothing, lies-at, Finds}
 
 -- ---- what is looked for among the lines, by its case

@@ -2,19 +2,17 @@
 -- Assumes nothing.
 use mathlib.Core.Path.{_≡_, refl, sym, ap, _∙_}
 use mathlib.Core.Bool.{Bool, true, false}
-use mathlib.Core.List.{List, [], _∷_}
+use mathlib.Core.List.{List}
 use Prim.Native.Nat.{ℕ, _+_, _-_, _<_, _≤_, _^_}
 use native.Mathlib.Omega.{arith}
 use lib.ListN.{length, drop, drop-of-length-le}
 use borrow.Author.Needs.{needs}
 use Rattle.base.specs.Tests.{pick}
 use Rattle.contents.specs.declared.Counts.{Counts}
-use Rattle.tokens.specs.Tokens.{got, blanks}
 use Rattle.tokens.specs.Asked.{Passes}
 use Rattle.text.specs.declared.Stage.{Stage}
 use Rattle.text.specs.declared.Stage.the-variants.{Start}
-use Rattle.text.specs.Grammar.{line, isOver, Script, done, more, fault, script}
-use Rattle.script.specs.declared.Found.{Found}
+use Rattle.text.specs.Grammar.{line, isOver, script}
 use Rattle.script.specs.declared.Step.{Step}
 use Rattle.script.specs.Steps.{lineIn, isFault, Lines}
 use Rattle.script.specs.Stages.{stageAfter, held}
@@ -25,8 +23,9 @@ use Rattle.origins.specs.declared.aims.Aim.the-variants.{Nothing, TextEn
 use Rattle.origins.specs.declared.aims.Table.{Table}
 use Rattle.origins.specs.declared.seeking.Sought.{Sought}
 use Rattle.origins.specs.declared.seeking.Sought.the-variants as sought
-use Rattle.origins.specs.Origins.{Placed, leftBy, placedLines, adds, tokenIn, isListed, Origin, unmade, from}
-use Rattle.origins.specs.Aims.{shareOf, hitsIn, aimBehind, endedAs, soughtIn, addedBy, listedIn, Begins, originAs, Lies, lies-nothing, lies-at, Finds}
+use Rattle.tokens.specs.Tokens.{leftBy}
+use Rattle.origins.specs.Origins.{placedLines, tokenIn, isListed, Origin, from}
+use Rattle.origins.specs.Aims.{shareOf, hitsIn, aimBehind, endedAs, soughtIn, addedBy, listedIn, Begins, originAs, lies-nothing, lies-at, Finds}
 use Rattle.origins.proofs.LineSteps.{added-line, listed-line}
 
 -- ---- where the lines are over

@@ -10,13 +10,12 @@ use Rattle.base.specs.Tests.{pick}
 use Rattle.ascii.specs.Words.{newline}
 use Rattle.ascii.specs.Numbers.{isDigit, value}
 use Rattle.tokens.specs.Bytes.{hash, slash, quote, backslash, opening, closing, isBlank, isLetter, isEscaped}
-use Rattle.tokens.specs.Tokens.{Read, got, stop, onward, pastBlanks, blanks, leading, behind, isWord, isNumber, number, withByte, labelFrom, label}
+use Rattle.tokens.specs.Tokens.{leftBy, Read, got, stop, onward, pastBlanks, blanks, leading, behind, isWord, isNumber, number, withByte, labelFrom, label}
 use Rattle.tokens.specs.Beats.{field, grainsOfABeat, isFraction, valued, fraction, beats}
 use Rattle.text.specs.declared.Stage.{Stage}
 use Rattle.text.specs.declared.Stage.the-variants.{Start, Listing, Timed, Playing}
 use Rattle.text.specs.Words.{messagesWord, eventWord, partWord, sendWord, groupWord, messageField, partField, anyNumber}
 use Rattle.text.specs.Grammar.{heading, message, group, close, pastWord, named, entry, timed, parted, sent, opened, synchronyAt, errorAt, erring, grouped, action, item, closed, line}
-use Rattle.origins.specs.Origins.{leftBy}
 
 -- ---- the ends of some bytes
 

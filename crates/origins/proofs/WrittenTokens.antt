@@ -12,7 +12,7 @@ use Rattle.ascii.specs.Words.{newline, space}
 use Rattle.ascii.specs.Text.{bytesOf}
 use Rattle.ascii.specs.Decimals.{decimal}
 use Rattle.tokens.specs.Bytes.{backslash, isBlank, isPlain, isEscaped, All, none, one}
-use Rattle.tokens.specs.Tokens.{pastBlanks, blanks}
+use Rattle.tokens.specs.Tokens.{leftBy, pastBlanks, blanks}
 use Rattle.tokens.specs.Quoted.{escaped, quoted}
 use Rattle.tokens.proofs.TokenLaws.{digits-end, decimal-all, number-read}
 use Rattle.text.specs.declared.Stage.{Stage}
@@ -21,7 +21,7 @@ use Rattle.text.specs.Grammar.{Line, heading, message, event, part, send, group
 use Rattle.text.specs.Beats.{denominator, numerator, over, beatsText}
 use Rattle.text.specs.Written.{synchronyWord, errorWord, Spot, indent, remark, lineText}
 use Rattle.text.proofs.LineLaws.{decimal-led, beats-led, led-solid, indent-passed, digits-plain, May, may-head, may-list, may-time, may-part, may-send, may-group, may-close}
-use Rattle.origins.specs.Origins.{leftBy, tokenIn}
+use Rattle.origins.specs.Origins.{tokenIn}
 use Rattle.origins.proofs.PlaceLaws.{newlines, newlines-append, newlines-plain}
 
 -- ---- what is written of numbers, beats, words and labels has no newline

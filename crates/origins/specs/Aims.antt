@@ -17,14 +17,12 @@ use Rattle.text.specs.Grammar.{script}
 use Rattle.text.specs.Said.{pieceOf, piece, said}
 use Rattle.script.specs.declared.Found.{Found}
 use Rattle.script.specs.declared.Found.the-variants.{Heading, Message, Event, Part, Send, Group, Close, Fault}
-use Rattle.script.specs.Steps.{lineIn}
-use Rattle.origins.specs.declared.aims.Table.{Table}
 use Rattle.origins.specs.declared.aims.Table.the-variants.{Events, Items, Messages, Text}
 use Rattle.origins.specs.declared.aims.Aim.{Aim}
 use Rattle.origins.specs.declared.aims.Aim.the-variants.{Nothing, TextEnd, ListEnd, Past}
 use Rattle.origins.specs.declared.seeking.Sought.{Sought}
 use Rattle.origins.specs.declared.seeking.Sought.the-variants as sought
-use Rattle.origins.specs.Origins.{Placed, placedLines, adds, countOf, tokenIn, isListed, Origin, unmade, from}
+use Rattle.origins.specs.Origins.{Placed, adds, countOf, tokenIn, isListed, Origin, unmade, from}
 
 -- ---- a text without a fault
 

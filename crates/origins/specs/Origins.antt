@@ -12,7 +12,7 @@ use Rattle.contents.specs.Limits.{mostEvents, mostItems, mostMessages, mostText
 use Rattle.contents.specs.Entries.{entryAt}
 use Rattle.score.specs.Encode.{countsIn}
 use Rattle.tokens.specs.declared.Place.{Place}
-use Rattle.tokens.specs.Tokens.{Read, got, stop, blanks, number}
+use Rattle.tokens.specs.Tokens.{leftBy, blanks, number}
 use Rattle.tokens.specs.Places.{placeBehind}
 use Rattle.text.specs.declared.Stage.{Stage}
 use Rattle.text.specs.declared.Stage.the-variants.{Start}
@@ -29,10 +29,6 @@ pub record Placed : Type 0 where
   pub line : Line
   pub from : List ℕ
   pub left : List ℕ
-
-unfoldable pub leftBy : {A : Type 0} → Read A → List ℕ
-leftBy (got l left) = left
-leftBy (stop left) = left
 
 unfoldable pub placedLines : Stage → List ℕ → Script → List Placed
 placedLines stage bs done = []

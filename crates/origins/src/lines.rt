@@ -3,18 +3,16 @@ ghost use mathlib.Core.Path.{_≡_};
 ghost use Prim.Native.Nat.{_≤_};
 ghost use lib.ListN.{length, drop};
 ghost use Rattle.base.specs.Tests.{pick};
-ghost use Rattle.tokens.specs.Tokens.{blanks, number};
+ghost use Rattle.tokens.specs.Tokens.{leftBy, blanks, number};
 ghost use Rattle.text.specs.Words.{anyNumber};
 ghost use Rattle.script.specs.Steps.{lineIn};
-ghost use Rattle.origins.specs.Origins.{leftBy, tokenIn};
+ghost use Rattle.origins.specs.Origins.{tokenIn};
 ghost use Rattle.origins.specs.Aims.{addedBy, listedIn, Begins};
 use contents::Counts;
+use script::ANY_NUMBER;
 use script::Found;
 use tokens::number;
 use tokens::past_blanks;
-
-// "1 to 10 digits": above any number that can be written.
-const ANY_NUMBER: u64 = 10000000000;
 
 fn counts(events: usize, items: usize, messages: usize, text: usize) -> Counts
     ensures { λ r. ⌜ r ≡ record { events = events; items = items; messages = messages; text = text } ⌝ }

@@ -2,6 +2,7 @@
 use contents::Counts;
 pub use grammar::is_over;
 pub use grammar::line;
+pub use list::ANY_NUMBER;
 pub use stages::after;
 pub use steps::is_fault;
 pub use tallying::tally_text;

@@ -11,7 +11,7 @@ use tokens::number;
 use tokens::past_blanks;
 
 // "1 to 10 digits": above any number that can be written.
-const ANY_NUMBER: u64 = 10000000000;
+pub const ANY_NUMBER: u64 = 10000000000;
 
 // The label at `at`.
 fn named(text: &[u8], at: usize) -> Step

@@ -15,6 +15,11 @@ pub data Read (A : Type 0) : Type 0 where
   got : A → List ℕ → Read A
   stop : List ℕ → Read A
 
+-- The bytes then left; of a fault those from it on.
+unfoldable pub leftBy : {A : Type 0} → Read A → List ℕ
+leftBy (got a left) = left
+leftBy (stop left) = left
+
 -- The next reader goes on behind what was read.
 unfoldable pub onward : {A B : Type 0} → Read A → (A → List ℕ → Read B) → Read B
 onward (got a left) next = next a left
