@@ -32,12 +32,12 @@ pub fn put_hint(out: &mut [u8], at: usize, h: Hint) -> usize
         Hint::InnerPart => put_bytes(
             out,
             at,
-            b"; hint: part stands behind an event and outside of groups, all of a group is in its part",
+            b"; hint: a group is in one part, and part stands outside of it, behind an event; is a } missing?",
         ),
         Hint::InnerEvent => put_bytes(
             out,
             at,
-            b"; hint: event stands outside of groups, is a } missing?",
+            b"; hint: event stands outside of groups; is a } missing?",
         ),
         Hint::Decimal => put_bytes(
             out,
