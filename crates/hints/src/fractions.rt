@@ -6,12 +6,10 @@ ghost use Rattle.tokens.specs.Beats.{beats};
 ghost use Rattle.hints.specs.Hints.{isGot, isFractional, isMixed, isUneven};
 use ascii::SPACE;
 use ascii::is_digit;
+use tokens::FIELD;
+use tokens::SLASH;
 use tokens::beats;
 use tokens::number;
-
-const FIELD: u64 = 4294967296;
-
-const SLASH: u8 = b'/';
 
 // Whether a number, a slash and a number stand at `at`, whatever the fraction's value.
 fn is_fractional(text: &[u8], at: usize) -> bool

@@ -1,8 +1,8 @@
 -- "for a text that we wrote, the line is that of the entry at fault": in a text laid out as Poolmirror writes it, the line of a byte of the file is that of the line
 -- which made its entry, refused or not. So of every accepted file and its own text. Assumes nothing.
-use mathlib.Core.Path.{_≡_, refl, sym, ap, _∙_}
+use mathlib.Core.Path.{_≡_, sym, ap, _∙_}
 use mathlib.Core.Bool.{false}
-use mathlib.Core.List.{List, [], _∷_, append-nil}
+use mathlib.Core.List.{List, [], append-nil}
 use Prim.Native.Nat.{ℕ, suc, _+_, _-_, _*_, _<_}
 use native.Mathlib.Omega.{arith}
 use lib.ListN.{length, getD}
@@ -23,11 +23,11 @@ use Rattle.score.proofs.EncodingFiles.{decode-lawful}
 use Rattle.text.specs.declared.Stage.the-variants.{Start}
 use Rattle.text.specs.declared.Transcript.the-variants.{BadFile}
 use Rattle.text.specs.Grammar.{Line, heading}
-use Rattle.text.specs.Said.{labelsOf, durationsOf, itemsOf, pieceOf, piece, told, said}
+use Rattle.text.specs.Said.{labelsOf, durationsOf, itemsOf, pieceOf, piece, said}
 use Rattle.text.specs.Written.{textOf, lines, outset, written}
 use Rattle.text.specs.Transcripts.{readAnswer}
 use Rattle.text.proofs.TextLaws.{scriptOf, Nested, script-written}
-use Rattle.text.proofs.RoundTrip.{nested, read-written}
+use Rattle.text.proofs.RoundTrip.{told-all, nested, read-written}
 use Rattle.origins.specs.declared.aims.Table.{Table}
 use Rattle.origins.specs.declared.aims.Table.the-variants.{Events, Items, Messages, Text}
 use Rattle.origins.specs.Origins.{countOf, Origin, from, passing, originIn, originOf, placeOf, placeInText}
@@ -65,15 +65,10 @@ pub data FaultLine (p : Piece) (hs : List Line) : Fault → ℕ → Type 0 where
 
 -- ---- what such a text says
 
-told-lines : (size : ℕ) (p : Piece) (hs : List Line) → told size p (scriptOf hs) ≡ piece p
-unfolding told scriptOf
-told-lines size p [] = refl
-told-lines size p (h ∷ hs) = told-lines size p hs
-
 -- It has no fault of its own, and says the piece of its lines.
 pub nested-says : (ls : List (List ℕ)) (hs : List Line) → Nested ls Start outset hs → said (textOf ls outset hs) ≡ piece (pieceOf (scriptOf hs))
 unfolding said
-nested-says ls hs n = rw (script-written ls n) (told-lines _ _ hs)
+nested-says ls hs n = rw (script-written ls n) (told-all _ _ hs)
 
 -- ---- the line of an entry
 

@@ -16,7 +16,7 @@ use Rattle.text.specs.declared.Stage.the-variants.{Start, Listing, Timed, Playi
 use Rattle.text.specs.Words.{messagesWord, eventWord, partWord, partField, anyNumber}
 use Rattle.text.specs.Grammar.{Line, heading, message, event, part, send, group, close, pastWord, named, entry, timed, parted, item, closed, line, after, isOver, Script, done, more, fault, follow, scriptFrom, script}
 use Rattle.script.proofs.BalancedLaws.{Itemed, sent-item, group-item, no-item, item-itemed}
-use Rattle.origins.specs.Origins.{Placed, placedLines, tokenIn, Origin, from}
+use Rattle.origins.specs.Origins.{Placed, placed, placedLines, tokenIn, Origin, from}
 use Rattle.origins.proofs.Tails.{Tail, whole, later, tail-on, Leaves, leaves, halts, blanks-tail, number-tail, line-leaves}
 
 -- ---- a token of a text
@@ -146,7 +146,7 @@ token-tail (group d w v) bs = whole
 token-tail close bs = whole
 
 lines-stand : (t : List ℕ) (n : ℕ) (stage : Stage) (bs : List ℕ) → Tail t bs → Stand t (placedLines stage bs (scriptFrom n stage bs)) (scriptFrom n stage bs)
-unfolding placedLines scriptFrom follow pick leftBy
+unfolding placedLines placed scriptFrom follow pick
 lines-stand t zero stage bs r = at-end
 lines-stand t (suc n) stage bs r =
     go (isOver stage (blanks bs)) (line stage (blanks bs)) refl (line-tells stage (blanks bs)) (line-leaves stage (blanks bs)) (λ l left. lines-stand t n (after l stage) left) where

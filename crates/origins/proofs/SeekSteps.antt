@@ -23,8 +23,7 @@ use Rattle.origins.specs.declared.aims.Aim.the-variants.{Nothing, TextEn
 use Rattle.origins.specs.declared.aims.Table.{Table}
 use Rattle.origins.specs.declared.seeking.Sought.{Sought}
 use Rattle.origins.specs.declared.seeking.Sought.the-variants as sought
-use Rattle.tokens.specs.Tokens.{leftBy}
-use Rattle.origins.specs.Origins.{placedLines, tokenIn, isListed, Origin, from}
+use Rattle.origins.specs.Origins.{placed, placedLines, tokenIn, isListed, Origin, from}
 use Rattle.origins.specs.Aims.{shareOf, hitsIn, aimBehind, endedAs, soughtIn, addedBy, listedIn, Begins, originAs, lies-nothing, lies-at, Finds}
 use Rattle.origins.proofs.LineSteps.{added-line, listed-line}
 
@@ -97,7 +96,7 @@ module _ (t : List ℕ) (goal : Origin) (at from₁ : ℕ) (stage : Stage) (a : 
         first : pick hit (from (tokenIn (lineIn t (s .found)) (drop from₁ t)))
             (soughtIn (aimBehind a share) (pick (isListed (lineIn t (s .found))) (drop (s .next) t) (drop listed t))
             (placedLines (stageAfter (s .found) stage) (drop (s .next) t) (script (stageAfter (s .found) stage) (drop (s .next) t)))) ≡ goal
-        unfolding placedLines soughtIn leftBy
+        unfolding placedLines placed soughtIn
         first =
             let a₁ = after-line t (s .found) (lineIn t (s .found)) (drop (s .next) t) (drop (s .next) t) stage (found-line t (s .found) (drop (s .next) t) (sym told ∙ p)) in
             rw (hitting, sharing, adding, added-line t (s .found) (read .fits), a₁)

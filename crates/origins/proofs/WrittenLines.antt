@@ -10,7 +10,7 @@ use lib.ListN.{length, take}
 use borrow.Author.Tests.{ltb-true, ltb-false}
 use Rattle.base.specs.Tests.{pick}
 use Rattle.ascii.specs.Words.{newline}
-use Rattle.tokens.specs.Tokens.{leftBy, got, blanks}
+use Rattle.tokens.specs.Tokens.{got, blanks}
 use Rattle.text.specs.declared.Stage.{Stage}
 use Rattle.text.specs.declared.Stage.the-variants.{Start}
 use Rattle.text.specs.Grammar.{Line, line}
@@ -18,7 +18,7 @@ use Rattle.text.specs.Written.{Spot, lineText, behindLine, textOf, outset}
 use Rattle.text.proofs.LineLaws.{lineLeft, line-read, left-passed}
 use Rattle.text.proofs.TextLaws.{scriptOf, Nested, ends, goes, script-written}
 use Rattle.origins.specs.declared.aims.Table.{Table}
-use Rattle.origins.specs.Origins.{Placed, placedLines, adds, countOf, tokenIn, Origin, unmade, from, passing, placeOf}
+use Rattle.origins.specs.Origins.{Placed, placed, placedLines, adds, countOf, tokenIn, Origin, unmade, from, passing, placeOf}
 use Rattle.origins.proofs.PlaceLaws.{newlines, newlines-append, line-newlines, place-rest}
 use Rattle.origins.proofs.OriginLaws.{placedIn}
 use Rattle.origins.proofs.WrittenTokens.{Laid, may-laid}
@@ -125,7 +125,7 @@ module _ (ls : List (List ℕ)) where
 
     rows : {stage : Stage} {s : Spot} {hs : List Line} (before bs : List ℕ) → Nested ls stage s hs → before ++ textOf ls s hs ≡ t → blanks bs ≡ blanks (textOf ls s hs)
         → Rows t (suc (newlines before)) (placedLines stage bs (scriptOf hs)) hs
-    unfolding placedLines scriptOf textOf leftBy
+    unfolding placedLines placed scriptOf textOf
     rows before bs (ends o) e q = no-row
     rows before bs (goes {stage = stage} {s = s} {l = l} {rest = rest} m w) e q =
         let later = textOf ls (behindLine l s) rest in

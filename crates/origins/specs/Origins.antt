@@ -12,7 +12,7 @@ use Rattle.contents.specs.Limits.{mostEvents, mostItems, mostMessages, mostText
 use Rattle.contents.specs.Entries.{entryAt}
 use Rattle.score.specs.Encode.{countsIn}
 use Rattle.tokens.specs.declared.Place.{Place}
-use Rattle.tokens.specs.Tokens.{leftBy, blanks, number}
+use Rattle.tokens.specs.Tokens.{Read, got, stop, leftBy, blanks, number}
 use Rattle.tokens.specs.Places.{placeBehind}
 use Rattle.text.specs.declared.Stage.{Stage}
 use Rattle.text.specs.declared.Stage.the-variants.{Start}
@@ -30,11 +30,14 @@ pub record Placed : Type 0 where
   pub from : List ℕ
   pub left : List ℕ
 
+unfoldable pub placed : Line → (from : List ℕ) → Read Line → (List ℕ → List Placed) → List Placed
+placed l bs (got k left) next = record { line = l; from = bs; left = left } ∷ next left
+placed l bs (stop left) next = []
+
 unfoldable pub placedLines : Stage → List ℕ → Script → List Placed
 placedLines stage bs done = []
 placedLines stage bs (fault left) = []
-placedLines stage bs (more l s) =
-    record { line = l; from = blanks bs; left = leftBy (line stage (blanks bs)) } ∷ placedLines (after l stage) (leftBy (line stage (blanks bs))) s
+placedLines stage bs (more l s) = placed l (blanks bs) (line stage (blanks bs)) (λ left. placedLines (after l stage) left s)
 
 -- ---- what a line makes
 

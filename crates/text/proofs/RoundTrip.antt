@@ -95,7 +95,7 @@ list-items (l ∷ js) rest = list-items js rest
 
 -- ---- a text without a fault
 
-told-all : (size : ℕ) (p : Piece) (hs : List Line) → told size p (scriptOf hs) ≡ piece p
+pub told-all : (size : ℕ) (p : Piece) (hs : List Line) → told size p (scriptOf hs) ≡ piece p
 unfolding told scriptOf
 told-all size p [] = refl
 told-all size p (h ∷ hs) = told-all size p hs

@@ -12,7 +12,7 @@ pub const FIELD: u64 = 4294967296;
 
 const GRAINS_OF_A_BEAT: u64 = 5040;
 
-const SLASH: u8 = b'/';
+pub const SLASH: u8 = b'/';
 
 // The grains of n / d, which stands from `at` to `next`.
 fn valued(at: usize, n: u64, d: u64, next: usize) -> Token

@@ -1,5 +1,7 @@
 // The tokens of the text form, read from lent bytes: blanks, words, numbers, beats and labels, and the line and column of a byte.
 pub use blanks::past_blanks;
+pub use delays::FIELD;
+pub use delays::SLASH;
 pub use delays::beats;
 pub use labels::is_escaped;
 pub use labels::label;
