@@ -15,7 +15,7 @@ use tokens::Place;
 use tokens::place_behind;
 
 mod aims;
-mod lines;
+mod making;
 mod seeking;
 
 fn no_place() -> Place
