@@ -12,7 +12,7 @@ pub const SPACE: u8 = b' ';
 pub const NEWLINE: u8 = b'\n';
 
 // Bytes read as a number.
-#[derive(Drop)]
+#[derive(Clone, Copy)]
 pub enum Number {
     Read(u64),
     Unreadable,

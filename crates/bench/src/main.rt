@@ -16,7 +16,7 @@ const ALL: u16 = 65535;
 const FAST: u64 = 50400;
 
 // A reply's number, and the figure that is printed beside it.
-#[derive(Drop)]
+#[derive(Clone, Copy)]
 struct Told {
     number: usize,
     figure: u64,

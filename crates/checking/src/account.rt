@@ -6,7 +6,7 @@ use crate::line::check_line;
 use crate::run::Came;
 use reasons::unread_line;
 
-#[derive(Drop)]
+#[derive(Clone, Copy)]
 pub struct Account {
     pub count: usize,
     pub came: Came,

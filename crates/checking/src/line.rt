@@ -15,7 +15,7 @@ use score::{check_file, event_count, item_count, message_count};
 use session::Refusal;
 
 // How long a file's line is, and whether the file was accepted.
-#[derive(Drop)]
+#[derive(Clone, Copy)]
 pub struct Checked {
     pub count: usize,
     pub accepted: bool,

@@ -10,7 +10,7 @@ use streams::Ending;
 const MOST_FILES: u32 = 4294967295;
 
 // How many files were accepted, were refused, and could not be read.
-#[derive(Drop)]
+#[derive(Clone, Copy)]
 pub struct Tally {
     pub accepted: u32,
     pub refused: u32,
@@ -18,7 +18,7 @@ pub struct Tally {
 }
 
 // What came of a file.
-#[derive(Drop)]
+#[derive(Clone, Copy)]
 pub enum Came {
     Accepted,
     Refused,

@@ -6,7 +6,7 @@ ghost use Rattle.chunks.specs.Inner.{reading_of, Going, WentOn, Ended};
 use playing::play_line;
 
 // How far the input is read: how many lines have ended, how many bytes of the next are kept, the grace that an opening is given, and whether a session is open.
-#[derive(Drop)]
+#[derive(Clone, Copy)]
 pub struct Progress {
     pub lines: u64,
     pub have: usize,
@@ -15,7 +15,7 @@ pub struct Progress {
 }
 
 // Reading on: where the next line begins in the chunk, how many bytes were printed, and how far the input is read.
-#[derive(Drop)]
+#[derive(Clone, Copy)]
 pub struct Step {
     pub next: usize,
     pub count: usize,

@@ -6,7 +6,7 @@ use crate::Counts;
 use crate::limits::{CONTENTS_SIZE, EVENT_SIZE, ITEM_SIZE, MESSAGE_SIZE};
 
 // A field of the table of contents, an event from 1, an item by its page place, or a message from 0.
-#[derive(Drop)]
+#[derive(Clone, Copy)]
 pub enum Entry {
     Nowhere,
     Contents(usize),

@@ -20,7 +20,7 @@ pub use entries::{Entry, entry_at};
 pub use replies::{replied, rule_row};
 
 // What can be wrong with a file, and with a message asked of it: one case for each row of the reply table, and one for the rules of an item together.
-#[derive(Drop)]
+#[derive(Clone, Copy)]
 pub enum Fault {
     // "file under 32 bytes"
     FileShort,
@@ -43,7 +43,7 @@ pub enum Fault {
 }
 
 // Which rule of an item is broken, in the order in which they are checked; the words are two fields.
-#[derive(Drop)]
+#[derive(Clone, Copy)]
 pub enum ItemRule {
     Kind,
     Synchrony,
@@ -57,28 +57,28 @@ pub enum ItemRule {
 }
 
 // What a check of a file, or of a part of it, finds.
-#[derive(Drop)]
+#[derive(Clone, Copy)]
 pub enum Verdict {
     Fine,
     Refused(Fault),
 }
 
 // A row of the table of an item's rules: the number, and where the rule's field stands in the item.
-#[derive(Drop)]
+#[derive(Clone, Copy)]
 pub struct RuleRow {
     pub number: usize,
     pub offset: usize,
 }
 
 // The reply table's number and place.
-#[derive(Drop)]
+#[derive(Clone, Copy)]
 pub struct Reply {
     pub number: usize,
     pub place: usize,
 }
 
 // The table of contents: where each body starts, and how many it has.
-#[derive(Drop)]
+#[derive(Clone, Copy)]
 pub struct Offsets {
     pub events: usize,
     pub items: usize,
@@ -86,7 +86,7 @@ pub struct Offsets {
     pub text: usize,
 }
 
-#[derive(Drop)]
+#[derive(Clone, Copy)]
 pub struct Counts {
     pub events: usize,
     pub items: usize,

@@ -5,7 +5,7 @@ ghost use Rattle.disk.specs.Saving.{made_by, written_by, safe_by, renamed_by, se
 use links::Step;
 
 // The file is whole; or the step that failed, with its error number.
-#[derive(Drop)]
+#[derive(Clone, Copy)]
 pub enum Saved {
     Whole,
     NotMade(i32),

@@ -6,7 +6,7 @@ use links::{Opened, opening, reason};
 use streams::{Filled, read_whole};
 
 // How many bytes stand at the buffer's start, and the error number of a failure, which is 0 where all went well.
-#[derive(Drop)]
+#[derive(Clone, Copy)]
 pub struct FileRead {
     pub count: usize,
     pub error: i32,

@@ -8,7 +8,7 @@ pub use folds::folded_at;
 pub use layout::extent_of;
 
 // The table of contents: how many of each there are.
-#[derive(Drop)]
+#[derive(Clone, Copy)]
 pub struct Extent {
     pub events: usize,
     pub items: usize,
@@ -18,7 +18,7 @@ pub struct Extent {
 }
 
 // An item of an extended score: kind 2 is a loop, 3 a curve.
-#[derive(Drop)]
+#[derive(Clone, Copy)]
 pub struct Folded {
     pub item: Item,
     // A loop's period, a curve's step.

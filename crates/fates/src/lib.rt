@@ -8,7 +8,7 @@ pub mod outcomes; // outcomes.rt: the outcome of an action
 
 // Where the words that are read and written begin among those lent: `starts` and `taken` by event, `items` and `outcomes` by page place. How many events there
 // are, and how many items; and the grace.
-#[derive(Drop)]
+#[derive(Clone, Copy)]
 pub struct Places {
     pub starts: usize,
     pub taken: usize,

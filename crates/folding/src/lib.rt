@@ -16,7 +16,7 @@ mod own;
 mod spans;
 
 // What is found of an extended score.
-#[derive(Drop)]
+#[derive(Clone, Copy)]
 pub enum Folding {
     // It can be unfolded.
     Right,

@@ -13,7 +13,7 @@ use extended::{Extent, Folded, folded_at};
 const MOST_PASSES: usize = 256;
 
 // An item's number, and how many points those before it leave.
-#[derive(Drop)]
+#[derive(Clone, Copy)]
 pub struct Reached {
     pub number: usize,
     pub left: usize,

@@ -9,7 +9,7 @@ mod table;
 mod words;
 
 // A row of the table of hints; a refusal has at most one.
-#[derive(Drop)]
+#[derive(Clone, Copy)]
 pub enum Hint {
     Unhinted,
     ByteOrderMark,

@@ -17,7 +17,7 @@ mod walk;
 pub use walk::check_items;
 
 // What is asked of an item: at depth 1 not to stand before this event and part, deeper to be of this part.
-#[derive(Drop)]
+#[derive(Clone, Copy)]
 pub struct Setting {
     pub depth: usize,
     pub event: usize,

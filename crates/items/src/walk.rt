@@ -14,14 +14,14 @@ use contents::{Counts, Fault, Verdict, items_at, rule_row};
 use page::Item;
 
 // How a walk of items ends: with so many actions, or with the fault of the first bad item.
-#[derive(Drop)]
+#[derive(Clone, Copy)]
 pub enum Walk {
     Actions(usize),
     Stop(Fault),
 }
 
 // What the walk goes on with after an item: the items within it and after it, the actions so far, and its event and part.
-#[derive(Drop)]
+#[derive(Clone, Copy)]
 pub struct Step {
     pub right: bool,
     pub body: usize,

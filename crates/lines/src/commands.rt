@@ -8,7 +8,7 @@ use ascii::{Number, SPACE, begins, bytes_before, read_number};
 const MOST_PARTS: u64 = 65535;
 
 // Bytes read as two numbers.
-#[derive(Drop)]
+#[derive(Clone, Copy)]
 pub enum Pair {
     Read(u64, u64),
     Unreadable,

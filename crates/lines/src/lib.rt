@@ -8,7 +8,7 @@ mod input;
 mod output;
 
 // A line read as a command; Bad where it can't be, or where it comes out of turn.
-#[derive(Drop)]
+#[derive(Clone, Copy)]
 pub enum Command {
     Open(u64, u64),
     Hear(u64, u64),
@@ -17,7 +17,7 @@ pub enum Command {
 }
 
 // What reading on in a chunk has come to: where the next line begins, how many bytes of the line are kept, and whether it has ended.
-#[derive(Drop)]
+#[derive(Clone, Copy)]
 pub struct Fed {
     pub next: usize,
     pub have: usize,

@@ -3,14 +3,14 @@ ghost use Rattle.std.specs.Prelude.{◌≡◌};
 ghost use Rattle.links.specs.Faults.{reason_of, step_of, step_if, opened_of};
 
 // A call did what was asked, or failed with this number.
-#[derive(Drop)]
+#[derive(Clone, Copy)]
 pub enum Step {
     Done,
     Failed(i32),
 }
 
 // A descriptor, or why there is none.
-#[derive(Drop)]
+#[derive(Clone, Copy)]
 pub enum Opened {
     At(i32),
     Failed(i32),

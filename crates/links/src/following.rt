@@ -11,14 +11,14 @@ use libc::PATH_MAX;
 const MOST_LINKS: u64 = 40;
 
 // The path is reached, and the file is saved there this way; or it is a link that is followed.
-#[derive(Drop)]
+#[derive(Clone, Copy)]
 pub enum Turn {
     Stop(Way),
     Follow,
 }
 
 // How many bytes the path has that was reached, and which way a file is saved there.
-#[derive(Drop)]
+#[derive(Clone, Copy)]
 pub struct Found {
     pub size: usize,
     pub way: Way,

@@ -14,7 +14,7 @@ const LAST: usize = PATH_MAX - 1;
 const PERMISSIONS: u32 = 0o777;
 
 // Nothing stands there, or a regular file with these permissions, a folder, a link or something else; or the system does not say what, with the reason's number.
-#[derive(Drop)]
+#[derive(Clone, Copy)]
 pub enum Kind {
     Missing,
     Regular(u32),
@@ -25,14 +25,14 @@ pub enum Kind {
 }
 
 // The permissions of a file that is made: what the system leaves, or those of the file that it replaces.
-#[derive(Drop)]
+#[derive(Clone, Copy)]
 pub enum Mode {
     AsMade,
     Kept(u32),
 }
 
 // A file is saved beside the path and renamed, or in place, or not at all.
-#[derive(Drop)]
+#[derive(Clone, Copy)]
 pub enum Way {
     Beside(Mode),
     InPlace,
@@ -40,7 +40,7 @@ pub enum Way {
 }
 
 // The system's answer to what stands at a path, and the mode of what does.
-#[derive(Drop)]
+#[derive(Clone, Copy)]
 struct Asked {
     answer: i32,
     mode: u32,

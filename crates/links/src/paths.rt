@@ -10,7 +10,7 @@ const SLASH: u8 = b'/';
 const LAST: usize = PATH_MAX - 1;
 
 // How many bytes there are to go on with, or why there are none.
-#[derive(Drop)]
+#[derive(Clone, Copy)]
 pub enum Next {
     To(usize),
     Failed(i32),

@@ -5,7 +5,7 @@ pub use table::{Lookup, Marks, ROW_ROOM, find_command, put_row};
 mod listing;
 mod table;
 
-#[derive(Drop)]
+#[derive(Clone, Copy)]
 pub enum Command {
     Check,
     Play,

@@ -17,7 +17,7 @@ pub const COUNT: usize = 7;
 const ANY_NUMBER: usize = 18446744073709551615;
 
 // A row whose texts stand in lent bytes one behind the other: where each ends, how many arguments the command takes, how many of them are names of files, and how many of these are read.
-#[derive(Drop)]
+#[derive(Clone, Copy)]
 pub struct Marks {
     pub name: usize,
     pub usage: usize,
@@ -29,7 +29,7 @@ pub struct Marks {
 }
 
 // The command that a name is the name of.
-#[derive(Drop)]
+#[derive(Clone, Copy)]
 pub enum Lookup {
     Known(Command),
     Unknown,

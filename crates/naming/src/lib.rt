@@ -8,7 +8,7 @@ mod places;
 mod searches;
 
 // What comes of naming values: how many messages and bytes of text there then are, or more than a score may have.
-#[derive(Drop)]
+#[derive(Clone, Copy)]
 pub enum Naming {
     Named { messages: usize, text: usize },
     Over,

@@ -11,7 +11,7 @@ use filing::put_entry;
 use values::put_value;
 
 // A message's number, and how many messages and bytes of text there then are; none where it has no room.
-#[derive(Drop)]
+#[derive(Clone, Copy)]
 pub enum Place {
     At {
         number: usize,

@@ -22,14 +22,14 @@ mod replies;
 pub use replies::opening_reply;
 
 // An opening: how many parts sound.
-#[derive(Drop)]
+#[derive(Clone, Copy)]
 pub enum Opening {
     Opened(u32),
     Refused(Refusal),
 }
 
 // The reply table's number and place, and the figure beside them.
-#[derive(Drop)]
+#[derive(Clone, Copy)]
 pub struct OpeningReply {
     pub number: usize,
     pub place: usize,

@@ -9,7 +9,7 @@ mod ending;
 mod said;
 
 // What an argument is: a name, the `--` behind which all are names, a wish for help, or an option that there is none of.
-#[derive(Drop)]
+#[derive(Clone, Copy)]
 pub enum Argument {
     Name,
     Plain,
@@ -18,7 +18,7 @@ pub enum Argument {
 }
 
 // Whether the arguments are as the command's usage says, or help is wished for, or what is wrong.
-#[derive(Drop)]
+#[derive(Clone, Copy)]
 pub enum Usage {
     Right,
     Wished,
@@ -31,7 +31,7 @@ pub enum Usage {
 }
 
 // The names so far: how many, and which arguments the first two are, 0 where there is none.
-#[derive(Drop)]
+#[derive(Clone, Copy)]
 pub struct Names {
     pub count: usize,
     pub first: usize,
@@ -39,7 +39,7 @@ pub struct Names {
 }
 
 // What is ordered so far: the command, its names, how many of them are standard input, the number behind them, 0 where there is none, and whether `--` was passed; `at` is the argument at fault.
-#[derive(Drop)]
+#[derive(Clone, Copy)]
 pub struct Order {
     pub command: Command,
     pub names: Names,

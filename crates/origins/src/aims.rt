@@ -9,7 +9,7 @@ use contents::limits::{MOST_EVENTS, MOST_ITEMS, MOST_MESSAGES, MOST_TEXT};
 use contents::{Counts, Entry};
 
 // What the table of contents counts.
-#[derive(Drop)]
+#[derive(Clone, Copy)]
 pub enum Table {
     Events,
     Items,
@@ -18,7 +18,7 @@ pub enum Table {
 }
 
 // What is looked for: nothing, the text's end, the end of the message list, or the first line with which there are more than n of a kind.
-#[derive(Drop)]
+#[derive(Clone, Copy)]
 pub enum Aim {
     Nothing,
     TextEnd,

@@ -12,7 +12,7 @@ use text::Stage;
 use tokens::past_blanks;
 
 // Where what is looked for stands.
-#[derive(Drop)]
+#[derive(Clone, Copy)]
 pub enum Sought {
     Nothing,
     At(usize),

@@ -3,7 +3,7 @@ use units::Grains;
 
 // "kind (0 action, 1 group), synchrony (0 loose, 1 tight), error word (0 local, 1 global, 2 partial, 3 causal), part, delay, event, last". Nothing is
 // asked of the numbers here: which are lawful is the file check's to say.
-#[derive(Drop)]
+#[derive(Clone, Copy)]
 pub struct Item {
     pub kind: usize,
     pub synchrony: usize,

@@ -14,7 +14,7 @@ use telling::{after_line, say_unread};
 const MOST_READS: u64 = 1000000000000000;
 
 // How far a run has come, whether the opening was refused, and whether a read or a write has failed.
-#[derive(Drop)]
+#[derive(Clone, Copy)]
 pub struct Run {
     pub progress: Progress,
     pub refused: bool,
@@ -22,7 +22,7 @@ pub struct Run {
 }
 
 // A step of a run: reading on, and what has come of it.
-#[derive(Drop)]
+#[derive(Clone, Copy)]
 struct Turn {
     step: Step,
     refused: bool,

@@ -19,7 +19,7 @@ pub use openings::why_refused;
 pub const OUTPUT_ROOM: usize = 114688;
 
 // A line carried out: how many bytes it prints, and whether a session is open after it.
-#[derive(Drop)]
+#[derive(Clone, Copy)]
 pub struct Line {
     pub count: usize,
     pub opened: bool,

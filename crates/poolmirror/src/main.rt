@@ -94,7 +94,7 @@ fn read_whole(name: &[u8], file: &mut [u8]) -> FileRead
 // ---- check
 
 // What has come of the files so far, the order as far as it was gone through again, and whether a line could not be written.
-#[derive(Drop)]
+#[derive(Clone, Copy)]
 struct Run {
     tally: Tally,
     order: Order,

@@ -12,7 +12,7 @@ use text::Stage;
 use tokens::put_label;
 
 // The label of a message, from its quote on, and its size; none where the line is no message.
-#[derive(Drop)]
+#[derive(Clone, Copy)]
 pub struct Label {
     pub some: bool,
     pub start: usize,

@@ -6,7 +6,7 @@ use text::Stage;
 use tokens::past_blanks;
 
 // Whether the text is over; else the next line, the byte behind it and what may stand there.
-#[derive(Drop)]
+#[derive(Clone, Copy)]
 pub struct Turn {
     pub over: bool,
     pub found: Found,

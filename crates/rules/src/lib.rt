@@ -5,14 +5,14 @@ ghost use Rattle.rules.specs.Words.{synchrony_of, error_of};
 use units::Grains;
 
 // "synchrony (0 loose, 1 tight)"
-#[derive(Drop)]
+#[derive(Clone, Copy)]
 pub enum Synchrony {
     Loose,
     Tight,
 }
 
 // "error word (0 local, 1 global, 2 partial, 3 causal)"
-#[derive(Drop)]
+#[derive(Clone, Copy)]
 pub enum ErrorWord {
     Local,
     Global,
@@ -21,7 +21,7 @@ pub enum ErrorWord {
 }
 
 // What has become of an event: heard, or missed with the first heard event after it, or neither yet.
-#[derive(Drop)]
+#[derive(Clone, Copy)]
 pub enum Taken {
     Heard,
     Missed(usize),
@@ -30,7 +30,7 @@ pub enum Taken {
 
 // How an item runs that starts at an ideal date: as heard at an event; as missed, with the first heard event after; as missed if it is a group and not at
 // all if it is an action; never; or not yet.
-#[derive(Drop)]
+#[derive(Clone, Copy)]
 pub enum Fate {
     HeardAt(usize, Grains),
     MissedBy(usize, Grains),

@@ -10,7 +10,7 @@ use contents::limits::MESSAGE_SIZE;
 use contents::{Counts, Verdict, messages_at, read_counts, text_at};
 
 // Where a label lies in the file.
-#[derive(Drop)]
+#[derive(Clone, Copy)]
 pub struct Span {
     pub start: usize,
     pub size: usize,

@@ -16,7 +16,7 @@ mod tallying;
 mod words;
 
 // What a line says; a label's bytes stay in the text, from its quote on.
-#[derive(Drop)]
+#[derive(Clone, Copy)]
 pub enum Found {
     Heading,
     Message {
@@ -43,14 +43,14 @@ pub enum Found {
 }
 
 // A line that was read and the byte behind it; of a fault the byte itself.
-#[derive(Drop)]
+#[derive(Clone, Copy)]
 pub struct Step {
     pub found: Found,
     pub next: usize,
 }
 
 // What a text comes to: how much there is of each kind, or its first fault.
-#[derive(Drop)]
+#[derive(Clone, Copy)]
 pub enum Tally {
     Counted { counts: Counts },
     Faulty { at: usize },

@@ -13,21 +13,21 @@ pub use replies::{report_reply, sending_reply};
 pub use reporting::read_report;
 
 // A heard note or passing time: how many messages were sent.
-#[derive(Drop)]
+#[derive(Clone, Copy)]
 pub enum Sending {
     Sent(usize),
     Refused(Refusal),
 }
 
 // A report.
-#[derive(Drop)]
+#[derive(Clone, Copy)]
 pub enum Report {
     Given(Figures),
     Refused(Refusal),
 }
 
 // "The report gives clock, tempo, last event heard (0 before the first) and messages sent since the opening."
-#[derive(Drop)]
+#[derive(Clone, Copy)]
 pub struct Figures {
     pub clock: u64,
     pub tempo: u64,
@@ -36,14 +36,14 @@ pub struct Figures {
 }
 
 // The reply table's number and place, and the figures beside them.
-#[derive(Drop)]
+#[derive(Clone, Copy)]
 pub struct SendingReply {
     pub number: usize,
     pub place: usize,
     pub count: usize,
 }
 
-#[derive(Drop)]
+#[derive(Clone, Copy)]
 pub struct ReportReply {
     pub number: usize,
     pub place: usize,

@@ -10,7 +10,7 @@ pub use replies::refusal_row;
 pub use rule::is_session;
 
 // Why a call is refused.
-#[derive(Drop)]
+#[derive(Clone, Copy)]
 pub enum Refusal {
     // "session memory under 8,192 words (u64)"
     MemoryShort,

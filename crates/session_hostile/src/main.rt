@@ -14,7 +14,7 @@ type Memory = [u64; MEMORY_SIZE + 8];
 type Room = [u64; ROOM_SIZE + 8];
 
 // The case's name, which is a part of the script, and how many words of memory and of room are lent.
-#[derive(Drop)]
+#[derive(Clone, Copy)]
 struct Case {
     name: usize,
     end: usize,

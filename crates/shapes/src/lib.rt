@@ -11,7 +11,7 @@ use contents::limits::{DEEPEST, MOST_ACTIONS, MOST_ITEMS};
 pub const ROW_WORDS: usize = 4;
 
 // An item's shape: its kind (0 action, 1 group, 2 loop, 3 curve), the items within it, and how many passes or values it has.
-#[derive(Drop)]
+#[derive(Clone, Copy)]
 pub struct Shape {
     pub kind: usize,
     pub last: usize,
@@ -19,7 +19,7 @@ pub struct Shape {
 }
 
 // What one item comes to by itself.
-#[derive(Drop)]
+#[derive(Clone, Copy)]
 pub struct Own {
     pub each: usize,
     pub sent: usize,
@@ -30,7 +30,7 @@ pub struct Own {
 }
 
 // The unfolded score's items and actions, or that it is over a limit.
-#[derive(Drop)]
+#[derive(Clone, Copy)]
 pub enum Sizes {
     Within(usize, usize),
     Over,

@@ -9,7 +9,7 @@ pub const MOST_TRIES: u64 = 1000000000000000;
 
 const MILLISECOND: i64 = 1000000;
 
-#[derive(Drop)]
+#[derive(Clone, Copy)]
 pub enum Outcome {
     Took(usize),
     Nothing,

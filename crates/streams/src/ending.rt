@@ -8,7 +8,7 @@ use crate::write_whole;
 const STATUS: i32 = 3;
 
 // All was done; something was refused; the usage is wrong, or something could not be read or written.
-#[derive(Drop)]
+#[derive(Clone, Copy)]
 pub enum Ending {
     Done,
     Refused,

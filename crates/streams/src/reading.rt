@@ -5,7 +5,7 @@ ghost use Rattle.streams.specs.Outcomes.{Within, Gives, got_of};
 use crate::calls::{MOST_TRIES, Outcome, came_to, retry};
 
 // What a read gave: bytes at the buffer's start, at least one; the input's end; or a failure.
-#[derive(Drop)]
+#[derive(Clone, Copy)]
 pub enum Got {
     Bytes(usize),
     End,
@@ -13,7 +13,7 @@ pub enum Got {
 }
 
 // How many bytes stand at the buffer's start, and whether a read failed before it was full and before the input ended.
-#[derive(Drop)]
+#[derive(Clone, Copy)]
 pub struct Filled {
     pub count: usize,
     pub failed: bool,

@@ -63,7 +63,7 @@ pub fn say_unwritten(name: &[u8], error: i32) {
 // ---- a refused opening
 
 // What a refusal is for: the score file, the grace, or the first line of the commands.
-#[derive(Drop)]
+#[derive(Clone, Copy)]
 pub enum Blame {
     Score,
     Grace,

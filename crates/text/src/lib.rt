@@ -6,7 +6,7 @@ ghost use Rattle.text.specs.Replies.{transcript_row};
 use contents::{Fault, Verdict, replied};
 
 // What may stand next in a text.
-#[derive(Drop)]
+#[derive(Clone, Copy)]
 pub enum Stage {
     // The word `messages`.
     Start,
@@ -19,7 +19,7 @@ pub enum Stage {
 }
 
 // What comes of a text that is read into a file, or of a file that is written as text.
-#[derive(Drop)]
+#[derive(Clone, Copy)]
 pub enum Transcript {
     // So many bytes stand in the room.
     Made { size: usize },
@@ -32,7 +32,7 @@ pub enum Transcript {
 }
 
 // A reply's number, its place in the file, its line and column in the text, and how many bytes were written.
-#[derive(Drop)]
+#[derive(Clone, Copy)]
 pub struct TextReply {
     pub number: usize,
     pub place: usize,

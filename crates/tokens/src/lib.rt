@@ -14,7 +14,7 @@ mod places;
 mod words;
 
 // What was read and the byte behind it, or the first byte that can't be: a number's or a delay's value, a label's size.
-#[derive(Drop)]
+#[derive(Clone, Copy)]
 pub struct Token {
     pub read: bool,
     pub value: u64,
@@ -22,7 +22,7 @@ pub struct Token {
 }
 
 // Where a byte of a text stands, as editors count.
-#[derive(Drop)]
+#[derive(Clone, Copy)]
 pub struct Place {
     pub line: usize,
     pub column: usize,

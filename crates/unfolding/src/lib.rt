@@ -6,7 +6,7 @@ ghost use Rattle.unfolding.specs.Replies.{unfold_row};
 use contents::{Fault, Verdict, replied};
 
 // What comes of an extended score that is unfolded.
-#[derive(Drop)]
+#[derive(Clone, Copy)]
 pub enum Unfolding {
     // So many bytes stand in the room.
     Made { size: usize },
@@ -21,7 +21,7 @@ pub enum Unfolding {
 }
 
 // A reply's number, its place, of a file's fault in the unfolded file, and how many bytes were written.
-#[derive(Drop)]
+#[derive(Clone, Copy)]
 pub struct UnfoldReply {
     pub number: usize,
     pub place: usize,

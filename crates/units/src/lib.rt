@@ -3,15 +3,15 @@ ghost use Rattle.std.specs.Prelude.{◌≡◌, ◌*◌, ◌^◌, ◌≤◌, ◌<
 ghost use Rattle.units.specs.Units.{moved_by, on_clock};
 
 // Score time as written: a beat is 5,040 grains.
-#[derive(Drop)]
+#[derive(Clone, Copy)]
 pub struct Grains(pub u64);
 
 // The beat clock's readings and due dates: thousandths of a grain.
-#[derive(Drop)]
+#[derive(Clone, Copy)]
 pub struct Thousandths(pub u64);
 
 // Stage time.
-#[derive(Drop)]
+#[derive(Clone, Copy)]
 pub struct Millis(pub u64);
 
 // The tempo step: the one place where milliseconds become thousandths. Both numbers are ones that a call has let in.

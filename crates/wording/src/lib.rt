@@ -11,7 +11,7 @@ mod replies;
 mod table;
 
 // A row of the reply table: of a call, of a text that is read or written, or of an extended score that is unfolded.
-#[derive(Drop)]
+#[derive(Clone, Copy)]
 pub enum Row {
     Call(Refusal),
     Text(Transcript),
