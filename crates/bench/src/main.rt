@@ -1,5 +1,7 @@
 // Calls on the largest score, named by a word of four letters. Every run reads, looks for its word and prints two figures,
 // so a run of a call, less a run of what it starts with, has the call's own instructions.
+#![tactic(auto)]
+
 use check::same;
 use sequencer::{Report, Sending};
 use session::layout::{MEMORY_SIZE, ROOM_SIZE};

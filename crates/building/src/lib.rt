@@ -1,4 +1,6 @@
 // The items of the unfolded score laid out as a file's item table, once its sizes are known to be within the limits.
+#![tactic(auto)]
+
 ghost use Rattle.std.specs.Prelude.{◌≡◌, ◌+◌, ◌*◌, ◌≤◌, length};
 ghost use Rattle.ascii.specs.Laying.{Laid};
 ghost use Rattle.contents.specs.Limits.{item_size, most_items, most_actions, deepest};

@@ -1,4 +1,6 @@
 // The input in whatever chunks it comes: a line is kept until it ends, and then carried out.
+#![tactic(auto)]
+
 ghost use Rattle.std.specs.Prelude.{◌≤◌, ◌<◌, length};
 ghost use Rattle.playing.specs.Inner.{Asked};
 ghost use Rattle.chunks.specs.Inner.{reading_of, Going, WentOn, Ended};

@@ -1,4 +1,6 @@
 // What every part of a file's check stands on: what can be wrong with a file, and the table of contents, with counts within their limits and bodies without gaps.
+#![tactic(auto)]
+
 ghost use Rattle.std.specs.Prelude.{◌≡◌, ◌≤◌, length};
 ghost use Rattle.contents.specs.Limits.{contents_size};
 ghost use Rattle.contents.specs.Replies.{verdict_of};

@@ -1,4 +1,6 @@
 // Files read whole, and written whole or not at all; every failure is told with its error number.
+#![tactic(auto)]
+
 pub use failures::Saved;
 pub use files::{FileRead, read_file, read_input};
 pub use saving::save;

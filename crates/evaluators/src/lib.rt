@@ -1,4 +1,6 @@
 // The rules of performance carried out over lent words, wherever they stand. It knows neither clock nor file.
+#![tactic(auto)]
+
 ghost use Rattle.std.specs.Prelude.{◌≡◌, length};
 ghost use Rattle.fates.specs.Places.{PlacesFit};
 ghost use Rattle.evaluators.specs.Performed.{performed};

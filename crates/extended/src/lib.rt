@@ -1,4 +1,6 @@
 // The extended score: a score with loops and curves, before it is unfolded. What stands where in its bytes.
+#![tactic(auto)]
+
 use page::Item;
 
 mod folds;

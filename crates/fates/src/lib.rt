@@ -1,4 +1,6 @@
 // The rules of performance for one item, carried out over lent words, wherever they stand: how it runs by what holds it, and the word for its outcome.
+#![tactic(auto)]
+
 use units::Grains;
 
 pub mod words; // words.rt: the fields of a word

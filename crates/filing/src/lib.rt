@@ -1,4 +1,6 @@
 // The bytes of a score file laid in lent bytes, for whatever makes a file: numbers, items, message entries, the contents, and all of it in one.
+#![tactic(auto)]
+
 pub use bodies::{join, settle_file};
 pub use entries::put_entry;
 pub use files::put_file;

@@ -1,5 +1,7 @@
 // Whether an extended score can be unfolded, and where the first fault is: number 17. Nothing here recurses, whatever holds what, so that a million nested
 // groups get their reply.
+#![tactic(auto)]
+
 ghost use Rattle.std.specs.Prelude.{◌≡◌};
 ghost use Rattle.extended.specs.Right.{extended_right};
 ghost use Rattle.folding.specs.Answers.{folding_of};

@@ -1,4 +1,6 @@
 // Hints for people: what a common mistake in a text looks like, and what is told of it.
+#![tactic(auto)]
+
 pub use choices::{fault_hint, hint_at};
 pub use table::put_hint;
 

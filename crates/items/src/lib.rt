@@ -1,4 +1,6 @@
 // The item table: an item's twelve bytes, the rules that it has to keep where it stands, and the walk of them all.
+#![tactic(auto)]
+
 ghost use Rattle.std.specs.Prelude.{◌≡◌, ◌+◌, ◌≤◌, length};
 ghost use Rattle.base.specs.Checks.{is_fine};
 ghost use Rattle.contents.specs.Limits.{item_size};

@@ -1,4 +1,6 @@
 // The lines of `play`: reading a line, reading a command off it, and laying out a line to print, on lent bytes.
+#![tactic(auto)]
+
 pub use commands::command_in_turn;
 pub use input::feed;
 pub use output::{bad_line, end_line, message_line, no_line, open_line};

@@ -1,4 +1,6 @@
 // The commands of `bin/poolmirror`: a row for each, what `help` prints of them, and looking one up by its name.
+#![tactic(auto)]
+
 pub use listing::help_text;
 pub use table::{Lookup, Marks, ROW_ROOM, find_command, put_row};
 

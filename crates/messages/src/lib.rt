@@ -1,4 +1,6 @@
 // The messages of a file: "Message: 4 bytes, start and length (u16) in the text.", and the label bytes.
+#![tactic(auto)]
+
 ghost use Rattle.std.specs.Prelude.{◌≡◌, ◌+◌, ◌≤◌, ◌<◌, length};
 ghost use Rattle.contents.specs.Limits.{message_size};
 ghost use Rattle.contents.specs.Bytes.{part};

@@ -1,4 +1,6 @@
 // Which message each value of a curve has: the first of the list, as it then stands, with just its digits, else a new one at the list's end.
+#![tactic(auto)]
+
 pub use all::name_values;
 
 mod all;

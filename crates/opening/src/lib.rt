@@ -1,4 +1,6 @@
 // The opening: a session on a score file, with a set of sounding parts, a tempo and a grace. No call of document 01 has a `requires`.
+#![tactic(auto)]
+
 ghost use Rattle.std.specs.Prelude.{◌≡◌, [], ◌∷◌, map, ◌+◌, ◌≤◌, length};
 ghost use Rattle.contents.specs.Limits.{most_events, most_items};
 ghost use Rattle.contents.specs.Contents.{counts_of};

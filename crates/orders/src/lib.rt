@@ -1,4 +1,6 @@
 // What `bin/poolmirror COMMAND ARGS` decides from its arguments, and what it tells of them, on lent bytes.
+#![tactic(auto)]
+
 pub use arguments::{begin, close, is_name, is_standard, nothing, take};
 pub use ending::{ending_if, ending_of};
 use menu::Command;

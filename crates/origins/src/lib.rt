@@ -1,5 +1,7 @@
 // Where in a text stands what made a byte of the file that it makes, so that a composer finds what the file check refuses. No public call has a `requires`; one loop
 // goes over the text, and nothing recurses.
+#![tactic(auto)]
+
 ghost use Rattle.std.specs.Prelude.{◌≡◌};
 ghost use Rattle.text.specs.Said.{said};
 ghost use Rattle.origins.specs.Origins.{place_of, place_in_text};

@@ -1,4 +1,6 @@
 // The written page: what one line of the item table says. A file's bytes and a session's words are both read as a list of these.
+#![tactic(auto)]
+
 use units::Grains;
 
 // "kind (0 action, 1 group), synchrony (0 loose, 1 tight), error word (0 local, 1 global, 2 partial, 3 causal), part, delay, event, last". Nothing is

@@ -1,4 +1,6 @@
 // A score played by commands from a descriptor, with what the electronics are sent on standard output. It moves bytes between the system and the proved libraries, and decides nothing about music.
+#![tactic(auto)]
+
 ghost use Rattle.std.specs.Prelude.{◌≡◌, ◌≤◌, length};
 ghost use Rattle.playing.specs.Inner.{Asked, output_room};
 ghost use Rattle.performance.specs.Refused.{ending_after};

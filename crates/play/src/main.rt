@@ -1,4 +1,6 @@
 // `play`: reads score.bin and commands, and prints what the electronics are sent. It moves bytes between the system and the proved libraries.
+#![tactic(auto)]
+
 use playing::OUTPUT_ROOM;
 use session::layout::{MEMORY_SIZE, ROOM_SIZE};
 use streams::Ending;

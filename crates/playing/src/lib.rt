@@ -1,4 +1,6 @@
 // One line of the input of `play` carried out, and the end: what is printed is laid in lent bytes.
+#![tactic(auto)]
+
 ghost use Rattle.std.specs.Prelude.{◌≡◌, true, ◌≤◌, length};
 ghost use Rattle.ascii.specs.Laying.{Laid};
 ghost use Rattle.score.specs.File.{Accepted};

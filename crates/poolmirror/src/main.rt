@@ -1,4 +1,6 @@
 // `poolmirror`: what people do with a score from the shell. The libraries decide what is asked for, what is said and which status tells it; the program moves bytes between the system and them.
+#![tactic(auto)]
+
 ghost use Rattle.std.specs.Prelude.{◌≡◌, ◌+◌, ◌≤◌};
 ghost use Rattle.std.proofs.Math.ListN.{length};
 

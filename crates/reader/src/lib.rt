@@ -1,5 +1,7 @@
 // A text read into the file of what it says, in two passes: the first counts or finds the fault, the second fills the file. No public call has a `requires`, and a
 // refusal leaves every lent byte.
+#![tactic(auto)]
+
 ghost use Rattle.std.specs.Prelude.{◌≡◌, length};
 ghost use Rattle.text.specs.Said.{said};
 ghost use Rattle.text.specs.Transcripts.{read_answer, room_left, file_of};

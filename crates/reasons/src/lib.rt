@@ -1,4 +1,6 @@
 // Why something can't be read or written, in words, laid out on lent bytes.
+#![tactic(auto)]
+
 pub use line::{unread_line, unwritten_line};
 
 mod line;

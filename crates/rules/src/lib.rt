@@ -1,4 +1,6 @@
 // The rules of performance: their words. What the rules say stands in specs/, and the crate `evaluators` carries them out.
+#![tactic(auto)]
+
 ghost use Rattle.std.specs.Prelude.{◌≡◌};
 ghost use Rattle.rules.specs.Words.{synchrony_of, error_of};
 

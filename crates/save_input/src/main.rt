@@ -1,4 +1,6 @@
 // `save_input PATH [FROM]`: saves standard input, or the file FROM, as the file PATH, so that tests/saving can try how a file is read and saved.
+#![tactic(auto)]
+
 use disk::{FileRead, Saved};
 use streams::Ending;
 

@@ -1,4 +1,6 @@
 // The score file: whether one is right and where the first fault is, what it says, and the labels of its messages.
+#![tactic(auto)]
+
 ghost use Rattle.std.specs.Prelude.{◌≡◌, ◌≤◌, ◌<◌};
 ghost use Rattle.contents.specs.Limits.{most_events, most_items, most_messages};
 ghost use Rattle.contents.specs.Replies.{verdict_of};

@@ -1,5 +1,7 @@
 // Runs the vectors of data/vectors.bin through the file check and both look-ups, a line for each: name, number and place of the check, number of the look-up,
 // and the label's bytes in hexadecimal. The file `stdout` says what is right; it comes from tests/vectors, which shares no code with the crate.
+#![tactic(auto)]
+
 ghost use Rattle.std.specs.Prelude.{◌<◌};
 
 const OUT: i32 = 1;

@@ -1,4 +1,6 @@
 // The lines of a text, read from lent bytes, and the first pass over them: the first fault, or how much there is. Nothing recurses, so groups may nest as deep as the text is long.
+#![tactic(auto)]
+
 use contents::Counts;
 pub use grammar::{is_over, line};
 pub use list::ANY_NUMBER;

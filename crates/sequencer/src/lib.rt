@@ -1,4 +1,6 @@
 // The calls of an opened session: it is told of heard notes and of passing time, and asked for a report. All of it lives in 8,192 lent words.
+#![tactic(auto)]
+
 use session::Refusal;
 
 mod finish;

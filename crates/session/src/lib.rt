@@ -1,4 +1,6 @@
 // A session's words: where each stands, when memory is a session, and why a call is refused.
+#![tactic(auto)]
+
 use contents::Fault;
 
 // The places are public for programs that forge or inspect memory; a caller of the sequencer needs none of them.

@@ -1,5 +1,7 @@
 // Calls on hostile memory, as the script in the file `stdin` has them; its head says what each command means. The file `stdout` says what is right; it is written by
 // hand from documents 01 and 02, and docs/.
+#![tactic(auto)]
+
 ghost use Rattle.std.specs.Prelude.{◌<◌, ◌≤◌, length};
 
 use reading::{Numbers, find};

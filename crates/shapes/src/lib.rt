@@ -1,5 +1,7 @@
 // How big the score is that a table with loops and curves unfolds to, found before anything is made. No product wraps: what is over a limit ends the walk, and
 // a factor is never above the items that it stands for. A walk into a body is at least one level deeper, so there are never more than eight at a time.
+#![tactic(auto)]
+
 ghost use Rattle.std.specs.Prelude.{◌≡◌, min, ◌+◌, ◌*◌, ◌<◌, ◌≤◌, length};
 ghost use Rattle.shapes.specs.Limits.{row_words, word_range};
 ghost use Rattle.shapes.specs.Shapes.{shape_at, shapes_from, within_of, unfolded};

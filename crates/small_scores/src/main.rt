@@ -1,5 +1,7 @@
 // The small scores of data/scores, laid out as words and run through the evaluators: a line for each, with its triples. The file `stdout` says what is right,
 // worked by hand from documents 01 and 02. A word of data/scores that can't be read is printed, and no `stdout` has it.
+#![tactic(auto)]
+
 ghost use Rattle.std.specs.Prelude.{◌≤◌, ◌<◌, length};
 
 use fates::{Places, words};

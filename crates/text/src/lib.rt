@@ -1,4 +1,6 @@
 // The text form of a score: what a text says, and the text of a piece. The definitions stand in specs/; what runs here says only a reply's numbers.
+#![tactic(auto)]
+
 ghost use Rattle.std.specs.Prelude.{◌≡◌};
 ghost use Rattle.text.specs.declared.Transcript.TheVariants.{BadFile};
 ghost use Rattle.text.specs.Replies.{transcript_row};

@@ -1,6 +1,8 @@
 // Runs the cases of texts.bin through the three calls of the text form. Of a text to be read and of a file to be written: a line with number, place, line, column and size of the reply, then, where it was granted,
 // the bytes in the room and a newline. Of a text that is asked for a place: number and place of the reply, line and column of what is refused, and line and column of what made the byte at the place that is asked.
 // A case is a byte, 0 for a text to be read, 1 for a file to be written and 2 for a text that is asked, the room's length or the place, the input's length, each a u32, and the input. The second program makes the cases and says what is right.
+#![tactic(auto)]
+
 ghost use Rattle.std.specs.Prelude.{◌<◌, ◌≤◌};
 
 use text::{TextReply, Transcript};

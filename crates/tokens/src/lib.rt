@@ -1,4 +1,6 @@
 // The tokens of the text form, read from lent bytes: blanks, words, numbers, beats and labels, and the line and column of a byte.
+#![tactic(auto)]
+
 pub use blanks::past_blanks;
 pub use delays::{FIELD, SLASH, beats};
 pub use labels::{is_escaped, label, put_label};

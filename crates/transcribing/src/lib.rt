@@ -1,4 +1,6 @@
 // What `read`, `write` and `unfold` say of what they refuse, laid out on lent bytes, and how they end.
+#![tactic(auto)]
+
 ghost use Rattle.std.specs.Prelude.{◌≡◌, ◌+◌, ◌≤◌, length};
 ghost use Rattle.ascii.specs.Laying.{Laid};
 ghost use Rattle.text.specs.Said.{said};

@@ -1,5 +1,7 @@
 // Runs the cases of extended.bin through `unfold`: for each a line with number, place and size of the reply, then, where it was granted, the bytes in the room and a newline.
 // A case is the room's length and the input's length, each a u32, and the input. The second program makes the cases and says what is right.
+#![tactic(auto)]
+
 ghost use Rattle.std.specs.Prelude.{◌<◌, ◌≤◌};
 
 use unfolding::UnfoldReply;

@@ -1,4 +1,6 @@
 // Loops and curves unfolded into an ordinary score. The definitions stand in specs/; what runs here says only a reply's numbers.
+#![tactic(auto)]
+
 ghost use Rattle.std.specs.Prelude.{◌≡◌};
 ghost use Rattle.unfolding.specs.declared.Unfolding.TheVariants.{BadFile};
 ghost use Rattle.unfolding.specs.Replies.{unfold_row};

@@ -1,4 +1,6 @@
 // Score grains, clock thousandths and stage milliseconds, kept apart by their types.
+#![tactic(auto)]
+
 ghost use Rattle.std.specs.Prelude.{◌≡◌, ◌*◌, ◌^◌, ◌≤◌, ◌<◌};
 ghost use Rattle.units.specs.Units.{moved_by, on_clock};
 

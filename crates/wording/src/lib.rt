@@ -1,4 +1,6 @@
 // The reply table in words for people, laid out on lent bytes: the words of a row, whether it names a byte, and the whole table.
+#![tactic(auto)]
+
 pub use figures::{put_counted, put_figure};
 pub use replies::reply_lines;
 use session::Refusal;

@@ -1,4 +1,6 @@
 // The text of a score file, in "the one form": what is written is what a composer signs.
+#![tactic(auto)]
+
 ghost use Rattle.std.specs.Prelude.{◌≡◌, length};
 ghost use Rattle.score.specs.Piece.{decode};
 ghost use Rattle.score.specs.File.{Accepted};
