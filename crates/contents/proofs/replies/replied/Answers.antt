@@ -5,20 +5,25 @@ use borrow.Author.Rules.{rules}
 use Rattle.contents.specs.declared.Reply.{Reply}
 use Rattle.contents.specs.declared.Verdict.{Verdict}
 use Rattle.contents.specs.Replies.{reply_of}
-use Rattle.contents.proofs.replies.replied.Statement.{statement}
-use Rattle.contents.proofs.replies.replied.Tie as tie
+use Rattle.contents.proofs.replies.replied.Goals as goal
 
 -- the reply to a verdict is the reply to the case that it is
 case-of : (v w : Verdict) (r : Reply) → v ≡ w → r ≡ reply_of w → r ≡ reply_of v
 case-of v w r e p = rw e p
 
-returns : tie.Need-returns
-unfolding reply_of
-returns c = search case-of
+pub enum_told-1 : goal.enum_told-1
+enum_told-1 c = search rules
 
-returns-2 : tie.Need-returns-2
-unfolding reply_of
-returns-2 c = search case-of
+pub enum_known-v : goal.enum_known-v
+enum_known-v c = search rules
 
-pub replied-spec : {M : Type 1} → statement M
-replied-spec = tie.close (tie.spec (λ c. search rules) (λ c. search rules) (λ c κs. search rules) returns returns-2)
+pub fault_row-requires : goal.fault_row-requires
+fault_row-requires c = search rules
+
+pub returns-in-Fine : goal.returns-in-Fine
+unfolding reply_of
+returns-in-Fine c = search case-of
+
+pub returns-in-Refused : goal.returns-in-Refused
+unfolding reply_of
+returns-in-Refused c = search case-of

@@ -8,14 +8,16 @@ use Rattle.contents.specs.declared.Counts.{Counts}
 use Rattle.contents.specs.declared.Offsets.{Offsets}
 use Rattle.contents.specs.Replies.{verdict_of}
 use Rattle.contents.specs.Contents.{offsets_right}
-use Rattle.contents.proofs.check_layout.Statement.{statement}
-use Rattle.contents.proofs.check_layout.Tie as tie
+use Rattle.contents.proofs.check_layout.Goals as goal
 
 offsets-told : (o p : Offsets) (c : Counts) (size : ℕ) (v : Verdict) → o ≡ p → v ≡ verdict_of (offsets_right o c size) → v ≡ verdict_of (offsets_right p c size)
 offsets-told o p c size v e q = rw e at q
 
-returns : tie.Need-returns
-returns c = search (offsets-told, rules)
+pub read_offsets-requires : goal.read_offsets-requires
+read_offsets-requires c = search rules
 
-pub check-layout-spec : {M : Type 1} → statement M
-check-layout-spec = tie.close (tie.spec (λ c κs. search rules) (λ c κs. search rules) returns)
+pub check_offsets-requires : goal.check_offsets-requires
+check_offsets-requires c = search rules
+
+pub returns : goal.returns
+returns c = search (offsets-told, rules)

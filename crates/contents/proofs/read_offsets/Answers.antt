@@ -6,17 +6,23 @@ use Prim.Native.Nat.{ℕ}
 use borrow.Author.Rules.{rules}
 use Rattle.contents.specs.Bytes.{u32_at}
 use Rattle.contents.specs.Contents.{offsets_of}
-use Rattle.contents.proofs.read_offsets.Statement.{statement}
-use Rattle.contents.proofs.read_offsets.Tie as tie
+use Rattle.contents.proofs.read_offsets.Goals as goal
 
 four-read : (f : List ℕ) (a b c d : ℕ) → a ≡ u32_at f 0 → b ≡ u32_at f 8 → c ≡ u32_at f 16 → d ≡ u32_at f 24 → record { events = a; items = b; messages = c; text = d } ≡ offsets_of f
 unfolding offsets_of
 four-read f a b c d p q r s = rw (p, q, r, s)
 
-returns : tie.Need-returns
-returns c = search (four-read, rules)
+pub read32-requires : goal.read32-requires
+read32-requires c = search rules
 
-pub read-offsets-spec : {M : Type 1} → statement M
-read-offsets-spec =
-    tie.close
-    (tie.spec (λ c κs. search rules) (λ c κs. search rules) (λ c κs. search rules) (λ c κs. search rules) returns)
+pub read32-requires-2 : goal.read32-requires-2
+read32-requires-2 c = search rules
+
+pub read32-requires-3 : goal.read32-requires-3
+read32-requires-3 c = search rules
+
+pub read32-requires-4 : goal.read32-requires-4
+read32-requires-4 c = search rules
+
+pub returns : goal.returns
+returns c = search (four-read, rules)
