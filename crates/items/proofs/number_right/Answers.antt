@@ -1,0 +1,13 @@
+-- The tests of the code are those of the definition, in its order.
+-- Assumes nothing.
+use Rattle.base.proofs.TestLaws.{tests}
+use Rattle.items.specs.Items.{number_right}
+use Rattle.items.proofs.number_right.Goals as goal
+
+pub returns-then-i-ne0 : goal.returns-then-i-ne0
+unfolding number_right
+returns-then-i-ne0 c = search tests depth 9
+
+pub returns : goal.returns
+unfolding number_right
+returns c = search tests depth 9
