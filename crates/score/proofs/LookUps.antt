@@ -7,7 +7,7 @@ use native.Mathlib.Omega.{arith}
 use lib.ListN.{length, get_or}
 use borrow.Author.Tests.{le-ltb, lt-ltb, ltb-true}
 use borrow.Author.Rules.{rules}
-use borrow.Rule.Slice.PartAt.{sl_part}
+use borrow.Rule.Slice.PartAt.{sl_partˢ}
 use denote.Ref.{Bor}
 use Rattle.base.specs.Checks.{Check, fine, refused, need, first_fault}
 use Rattle.base.proofs.TestLaws.{between-low, between-high}
@@ -176,8 +176,8 @@ module _ (f : List ℕ) (c : Counts) (n at text start size : ℕ) (g : Granted f
       omega arith
 
 -- a part from start on, to start + size
-pub part_of : (whole : Bor (List ℕ)) (s t : Span) (γ : ℕ) → s ≡ t → Part whole (sl_part whole (s.start + whole.ref_ptr.1) s.start (s.start + s.size) γ) t
-part_of whole s t γ e =
+pub part_of : (whole : Bor (List ℕ)) (s t : Span) → s ≡ t → Part whole (sl_partˢ whole (s.start + whole.ref_ptr.1) s.start (s.start + s.size)) t
+part_of whole s t e =
     let z : s.start + s.size - s.start ≡ s.size = omega arith in
     rw (← e) (record { place = refl; bytes = rw z })
 

@@ -101,6 +101,8 @@ module _ {X : Type 0} (row : X → Reply) where
   pub split-first : (v : Check Reply) (w : Check X) (l : List (Check Reply)) (k : List (Check X)) → Split row v w → Split row (first_fault l) (first_fault k) → Split row (first_fault (v ∷ l)) (first_fault (w ∷ k))
   unfolding first_fault
   split-first fine fine l k accepted h = h
+  split-first fine (refused x) l k s h = elim s [ ]
+  split-first (refused r) fine l k s h = elim s [ ]
   split-first (refused r) (refused x) l k (kept n) h = kept n
   split-first (refused r) (refused x) l k (split p q s t) h = split p q s t
 

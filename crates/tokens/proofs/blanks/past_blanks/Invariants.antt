@@ -1,0 +1,13 @@
+-- The invariant: what is left behind the blanks from here is what is left behind them.
+-- Assumes nothing.
+use Prim.Native.Nat.{◌-◌}
+use lib.ListN.{length}
+use Rattle.tokens.specs.Asked.{InBlanks}
+use Rattle.tokens.proofs.BlankSteps.{passing}
+use Rattle.tokens.proofs.blanks.past_blanks.Given as goal
+
+abbrev pub invariant-loop-i : goal.invariant-loop-i
+invariant-loop-i l = InBlanks l.text l.at l.i
+
+abbrev pub decreases-loop-i : goal.decreases-loop-i
+decreases-loop-i l = length l.text - l.i
