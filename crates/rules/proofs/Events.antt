@@ -118,7 +118,7 @@ module _ (R : Reading) (P : ℕ → Type 0) (r : Reaches R P) where
   unfolding run
   run_on h s end p = nil
   run_on h s (action d m q x) p = cons (outcome-on R P _ (fate-on h (s + d) p)) (run_on h (s + d) x p)
-  run_on h s (group d y e b x) p = lines-append (run_on _ 0 b (enter-on P _ y e (fate-on h (s + d) p))) (run_on h (s + d) x p)
+  run_on h s (group d y e b x) p = lines-append (run_on (enter (fate_of R h (s + d)) y e) 0 b (enter-on P _ y e (fate-on h (s + d) p))) (run_on h (s + d) x p)
 
   pub top-on : (i : ℕ) (a : Taken) → (a ≡ heard → P i) → ((j : ℕ) → a ≡ missed j → P j) → HolderOn P (top_holder R i a)
   unfolding top_holder HolderWith

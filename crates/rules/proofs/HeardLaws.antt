@@ -105,14 +105,14 @@ unsettled-above (d ∷ D) i p = go (order i d) (unsettled-above D i)
     go (at h) ih = let z : ◌≡◌ {A = ℕ} 0 1 = cc (taken_at d D i h) in absurd (omega arith)
     go (after h) ih = heard_before h (ih (rw (taken-after d D i h) at p))
 
-pub above-unsettled : {D : List ℕ} (i : ℕ) → Below i D → taken D i ≡ unsettled
+pub above-unsettled : (i : ℕ) {D : List ℕ} → Below i D → taken D i ≡ unsettled
 unfolding taken
 above-unsettled i nothing_heard = refl
 above-unsettled i (heard_before {d = d} {D = D} h b) = rw (taken-after d D i h) (above-unsettled i b)
 
 -- ---- an event h after all of D
 
-pub heard-below : {D : List ℕ} (h i : ℕ) → Below h D → taken D i ≡ heard → i < h
+pub heard-below : (h i : ℕ) {D : List ℕ} → Below h D → taken D i ≡ heard → i < h
 unfolding taken
 heard-below h i nothing_heard p = let z : ◌≡◌ {A = ℕ} 0 1 = cc in absurd (omega arith)
 heard-below h i (heard_before {d = d} {D = D} l b) p = go (order i d) (heard-below h i b)
@@ -126,7 +126,7 @@ pub next-below : {D : List ℕ} (h i j : ℕ) → Below h D → taken D i ≡ mi
 next-below {D} h i j b p = heard-below h j b (next-heard D i j p)
 
 -- From h on, only h itself is settled.
-pub settled-from : {D : List ℕ} (h i : ℕ) → Below h D → h ≤ i → taken (D ++ (h ∷ [])) i ≡ taken (h ∷ []) i
+pub settled-from : (h i : ℕ) {D : List ℕ} → Below h D → h ≤ i → taken (D ++ (h ∷ [])) i ≡ taken (h ∷ []) i
 settled-from h i nothing_heard l = refl
 settled-from h i (heard_before {d = d} {D = D} g b) l = rw (taken-after d (D ++ (h ∷ [])) i (omega arith)) (settled-from h i b l)
 
@@ -153,14 +153,14 @@ turns (d ∷ D) h i = go (order i d) (turns D h i)
 
 -- ---- the list of the events heard, one longer
 
-pub below_up : {D : List ℕ} (h g : ℕ) → h ≤ g → Below h D → Below g D
+pub below_up : (h g : ℕ) → h ≤ g → {D : List ℕ} → Below h D → Below g D
 below_up h g l nothing_heard = nothing_heard
 below_up h g l (heard_before {d = d} k b) = heard_before {d = d} (omega arith) (below_up h g l b)
 
-pub below-one-more : {D : List ℕ} (h g : ℕ) → h < g → Below h D → Below g (D ++ (h ∷ []))
+pub below-one-more : (h g : ℕ) → h < g → {D : List ℕ} → Below h D → Below g (D ++ (h ∷ []))
 below-one-more h g l nothing_heard = heard_before l nothing_heard
 below-one-more h g l (heard_before {d = d} k b) = heard_before {d = d} (omega arith) (below-one-more h g l b)
 
-pub rising-one-more : {b : ℕ} {D : List ℕ} (h : ℕ) → b < h → Below h D → Rising b D → Rising b (D ++ (h ∷ []))
+pub rising-one-more : (h : ℕ) {b : ℕ} {D : List ℕ} → b < h → Below h D → Rising b D → Rising b (D ++ (h ∷ []))
 rising-one-more h l nothing_heard no_more = then l no_more
 rising-one-more h l (heard_before g b) (then k r) = then k (rising-one-more h g b r)
