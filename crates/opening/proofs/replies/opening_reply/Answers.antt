@@ -1,0 +1,22 @@
+-- A granted call has row 0 and its figures, a refused one its own row and no figure.
+-- Assumes nothing.
+use Rattle.opening.specs.Replies.{opening_reply}
+use borrow.Author.Rules.{rules}
+use Rattle.opening.proofs.replies.opening_reply.Goals as goal
+
+pub enum_known-o : goal.enum_known-o
+enum_known-o c = search rules
+
+pub enum_known-o-in-Refused-1 : goal.enum_known-o-in-Refused-1
+enum_known-o-in-Refused-1 c = search rules
+
+pub refusal_row-r-requires : goal.refusal_row-r-requires
+refusal_row-r-requires c = search rules
+
+pub returns-in-Opened : goal.returns-in-Opened
+unfolding opening_reply
+returns-in-Opened c = cc
+
+pub returns-in-Refused : goal.returns-in-Refused
+unfolding opening_reply
+returns-in-Refused c = cc
