@@ -10,8 +10,7 @@ use Rattle.sequencer.specs.declared.Sending.{Sending}
 use Rattle.sequencer.specs.declared.Sending.TheVariants.{Sent, Refused}
 use Rattle.sequencer.specs.declared.SendingReply.{SendingReply}
 use Rattle.sequencer.specs.Replies.{sending_reply}
-use Rattle.sequencer.proofs.replies.sending_reply.Statement.{statement}
-use Rattle.sequencer.proofs.replies.sending_reply.Tie as tie
+use Rattle.sequencer.proofs.replies.sending_reply.Goals as goal
 
 sent-row : (a : Sending) (n : ℕ) → a ≡ Sent n → ◌≡◌ {A = SendingReply} (record { number = 0; place = 0; count = n }) (sending_reply a)
 unfolding sending_reply
@@ -22,11 +21,17 @@ refused-row : (a : Sending) (x : Refusal) (r : Reply) → a ≡ Refused x → r 
 unfolding sending_reply
 refused-row a x r e q = rw (e, q)
 
-returns : tie.Need-returns
-returns c = search (sent-row, rules)
+pub enum_known-s : goal.enum_known-s
+enum_known-s c = search rules
 
-returns-2 : tie.Need-returns-2
-returns-2 c = search (refused-row, rules)
+pub enum_known-s-in-Refused-1 : goal.enum_known-s-in-Refused-1
+enum_known-s-in-Refused-1 c = search rules
 
-pub sending-reply-spec : {M : Type 1} → statement M
-sending-reply-spec = tie.close (tie.spec (λ c. search rules) (λ c. search rules) (λ c κs. search rules) returns returns-2)
+pub refusal_row-r-requires : goal.refusal_row-r-requires
+refusal_row-r-requires c = search rules
+
+pub returns-in-Sent : goal.returns-in-Sent
+returns-in-Sent c = search (sent-row, rules)
+
+pub returns-in-Refused : goal.returns-in-Refused
+returns-in-Refused c = search (refused-row, rules)

@@ -10,8 +10,7 @@ use Rattle.sequencer.specs.declared.Report.{Report}
 use Rattle.sequencer.specs.declared.Report.TheVariants.{Given, Refused}
 use Rattle.sequencer.specs.declared.ReportReply.{ReportReply}
 use Rattle.sequencer.specs.Replies.{report_reply}
-use Rattle.sequencer.proofs.replies.report_reply.Statement.{statement}
-use Rattle.sequencer.proofs.replies.report_reply.Tie as tie
+use Rattle.sequencer.proofs.replies.report_reply.Goals as goal
 
 given-row : (a : Report) (s : Figures) → a ≡ Given s → ◌≡◌ {A = ReportReply} (record { number = 0; place = 0; figures = s }) (report_reply a)
 unfolding report_reply
@@ -22,11 +21,17 @@ refused-row : (a : Report) (x : Refusal) (r : Reply) → a ≡ Refused x → r �
 unfolding report_reply
 refused-row a x r e q = rw (e, q)
 
-returns : tie.Need-returns
-returns c = search (given-row, rules)
+pub enum_known-a : goal.enum_known-a
+enum_known-a c = search rules
 
-returns-2 : tie.Need-returns-2
-returns-2 c = search (refused-row, rules)
+pub enum_known-a-in-Refused-1 : goal.enum_known-a-in-Refused-1
+enum_known-a-in-Refused-1 c = search rules
 
-pub report-reply-spec : {M : Type 1} → statement M
-report-reply-spec = tie.close (tie.spec (λ c. search rules) (λ c. search rules) (λ c κs. search rules) returns returns-2)
+pub refusal_row-r-requires : goal.refusal_row-r-requires
+refusal_row-r-requires c = search rules
+
+pub returns-in-Given : goal.returns-in-Given
+returns-in-Given c = search (given-row, rules)
+
+pub returns-in-Refused : goal.returns-in-Refused
+returns-in-Refused c = search (refused-row, rules)

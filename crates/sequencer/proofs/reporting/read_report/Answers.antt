@@ -10,8 +10,7 @@ use Rattle.base.specs.Checks.{fine, refused}
 use Rattle.sequencer.specs.Calls.{report_check, if_known, reported}
 use Rattle.base.proofs.CheckLaws.{checks}
 use borrow.Author.Rules.{rules}
-use Rattle.sequencer.proofs.reporting.read_report.Statement.{statement}
-use Rattle.sequencer.proofs.reporting.read_report.Tie as tie
+use Rattle.sequencer.proofs.reporting.read_report.Goals as goal
 
 report-granted : (m : List ℕ) → fine ≡ report_check m
     → Given (record { clock = word_at m clock_at; tempo = word_at m tempo_at; last = word_at m last_at; total = word_at m total_at }) ≡ reported m
@@ -24,18 +23,29 @@ report-refused m x e = rw (← e)
 
 ruleset steps = (report-granted, report-refused, checks)
 
-returns : tie.Need-returns
+pub returns-then-mem-lt-MEMORY_SIZE : goal.returns-then-mem-lt-MEMORY_SIZE
+unfolding report_check
+returns-then-mem-lt-MEMORY_SIZE c = search steps
+
+pub is_session-requires : goal.is_session-requires
+is_session-requires c = search rules
+
+pub returns-then-not-is_session : goal.returns-then-not-is_session
+unfolding report_check
+returns-then-not-is_session c = search steps
+
+pub bounds-mem-2336 : goal.bounds-mem-2336
+bounds-mem-2336 c = search rules
+
+pub bounds-mem-2337 : goal.bounds-mem-2337
+bounds-mem-2337 c = search rules
+
+pub bounds-mem-2338 : goal.bounds-mem-2338
+bounds-mem-2338 c = search rules
+
+pub bounds-mem-2339 : goal.bounds-mem-2339
+bounds-mem-2339 c = search rules
+
+pub returns : goal.returns
 unfolding report_check
 returns c = search steps
-
-returns-2 : tie.Need-returns-2
-unfolding report_check
-returns-2 c = search steps
-
-returns-3 : tie.Need-returns-3
-unfolding report_check
-returns-3 c = search steps
-
-pub read-report-spec : {M : Type 1} → statement M
-read-report-spec =
-    tie.close (tie.spec returns (λ c κs. search rules) returns-2 (λ c. search rules) (λ c. search rules) (λ c. search rules) (λ c. search rules) returns-3)

@@ -1,0 +1,16 @@
+-- What is owed from event k on, of the words as they are, is what was owed of the words at entry.
+-- Assumes nothing.
+use mathlib.Core.Path.{◌≡◌}
+use Prim.Native.Nat.{◌+◌, ◌-◌, ◌≤◌}
+use native.Mathlib.Omega.{arith}
+use lib.ListN.{length, length-set}
+use borrow.Author.Rules.{rules}
+use Rattle.sequencer.specs.Calls.{took_note}
+use Rattle.sequencer.proofs.NoteLaws.{took-step, took-done}
+use Rattle.sequencer.proofs.heard.take_note.Given as goal
+
+abbrev pub invariant-loop-k : goal.invariant-loop-k
+invariant-loop-k l = (length l.mem ≡ length l.initial.mem) × (l.k ≤ 257) × (took_note l.event (l.event + 1 - l.k) l.k l.mem ≡ took_note l.event (l.event + 1 - l.initial.k) l.initial.k l.initial.mem)
+
+abbrev pub decreases-loop-k : goal.decreases-loop-k
+decreases-loop-k l = l.event + 1 - l.k
