@@ -1,6 +1,3 @@
-use Prim.Native.Nat.{◌+◌, ◌-◌, ◌≤◌}
-use lib.ListN.{length, take}
-use Rattle.ascii.specs.Laying.{Laid}
 use Rattle.ascii.proofs.LayLaws.{copying}
 use Rattle.ascii.proofs.laying.put_bytes.Goals as goal
 

@@ -3,7 +3,6 @@
 use Prim.Native.Nat.{◌+◌, ◌-◌, ◌≤◌}
 use lib.ListN.{length, take}
 use Rattle.ascii.specs.Laying.{Laid}
-use Rattle.ascii.proofs.LayLaws.{copying}
 use Rattle.ascii.proofs.laying.put_bytes.Given as goal
 
 abbrev pub invariant-loop-i : goal.invariant-loop-i

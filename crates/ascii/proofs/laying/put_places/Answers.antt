@@ -1,8 +1,6 @@
-use mathlib.Core.Path.{◌≡◌}
-use Prim.Native.Nat.{◌≤◌}
 use native.Mathlib.Omega.{arith}
-use lib.ListN.{length, length-set}
-use Rattle.ascii.proofs.DigitSteps.{filled, filling}
+use lib.ListN.{length-set}
+use Rattle.ascii.proofs.DigitSteps.{filling}
 use Rattle.ascii.proofs.laying.put_places.Goals as goal
 
 pub loop-left-init : goal.loop-left-init

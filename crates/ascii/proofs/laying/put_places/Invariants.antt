@@ -2,9 +2,8 @@
 -- Assumes nothing.
 use mathlib.Core.Path.{◌≡◌}
 use Prim.Native.Nat.{◌≤◌}
-use native.Mathlib.Omega.{arith}
-use lib.ListN.{length, length-set}
-use Rattle.ascii.proofs.DigitSteps.{filled, filling}
+use lib.ListN.{length}
+use Rattle.ascii.proofs.DigitSteps.{filled}
 use Rattle.ascii.proofs.laying.put_places.Given as goal
 
 abbrev pub invariant-loop-left : goal.invariant-loop-left

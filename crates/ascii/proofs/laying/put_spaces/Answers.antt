@@ -1,7 +1,3 @@
-use Prim.Native.Nat.{◌+◌, ◌-◌, ◌≤◌}
-use lib.ListN.{replicate}
-use Rattle.ascii.specs.Words.{space}
-use Rattle.ascii.specs.Laying.{Laid}
 use Rattle.ascii.proofs.LayLaws.{spacing}
 use Rattle.ascii.proofs.laying.put_spaces.Goals as goal
 

@@ -4,7 +4,6 @@ use Prim.Native.Nat.{◌+◌, ◌-◌, ◌≤◌}
 use lib.ListN.{replicate}
 use Rattle.ascii.specs.Words.{space}
 use Rattle.ascii.specs.Laying.{Laid}
-use Rattle.ascii.proofs.LayLaws.{spacing}
 use Rattle.ascii.proofs.laying.put_spaces.Given as goal
 
 abbrev pub invariant-loop-i : goal.invariant-loop-i

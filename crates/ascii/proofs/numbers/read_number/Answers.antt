@@ -1,7 +1,3 @@
-use mathlib.Core.Path.{◌≡◌}
-use Prim.Native.Nat.{◌-◌, ◌^◌, ◌<◌}
-use lib.ListN.{length, drop}
-use Rattle.ascii.specs.Numbers.{all_digits, value_from, value}
 use Rattle.ascii.proofs.NumberSteps.{reading}
 use Rattle.ascii.proofs.numbers.read_number.Goals as goal
 

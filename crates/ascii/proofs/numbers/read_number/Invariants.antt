@@ -4,7 +4,6 @@ use mathlib.Core.Path.{◌≡◌}
 use Prim.Native.Nat.{◌-◌, ◌^◌, ◌<◌}
 use lib.ListN.{length, drop}
 use Rattle.ascii.specs.Numbers.{all_digits, value_from, value}
-use Rattle.ascii.proofs.NumberSteps.{reading}
 use Rattle.ascii.proofs.numbers.read_number.Given as goal
 
 abbrev pub invariant-loop-i : goal.invariant-loop-i

@@ -1,7 +1,3 @@
-use mathlib.Core.Path.{◌≡◌}
-use Prim.Native.Nat.{◌-◌}
-use lib.ListN.{length, drop}
-use Rattle.ascii.specs.Words.{begins}
 use Rattle.ascii.proofs.WordSteps.{comparing}
 use Rattle.ascii.proofs.words.begins.Goals as goal
 

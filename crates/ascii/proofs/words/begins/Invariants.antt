@@ -4,7 +4,6 @@ use mathlib.Core.Path.{◌≡◌}
 use Prim.Native.Nat.{◌-◌}
 use lib.ListN.{length, drop}
 use Rattle.ascii.specs.Words.{begins}
-use Rattle.ascii.proofs.WordSteps.{comparing}
 use Rattle.ascii.proofs.words.begins.Given as goal
 
 abbrev pub invariant-loop-i : goal.invariant-loop-i

@@ -1,7 +1,3 @@
-use mathlib.Core.Path.{◌≡◌}
-use Prim.Native.Nat.{◌+◌, ◌-◌, ◌≤◌}
-use lib.ListN.{length, drop}
-use Rattle.ascii.specs.Words.{bytes_before}
 use Rattle.ascii.proofs.WordSteps.{looking}
 use Rattle.ascii.proofs.words.bytes_before.Goals as goal
 

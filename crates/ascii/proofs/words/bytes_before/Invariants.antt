@@ -4,7 +4,6 @@ use mathlib.Core.Path.{◌≡◌}
 use Prim.Native.Nat.{◌+◌, ◌-◌, ◌≤◌}
 use lib.ListN.{length, drop}
 use Rattle.ascii.specs.Words.{bytes_before}
-use Rattle.ascii.proofs.WordSteps.{looking}
 use Rattle.ascii.proofs.words.bytes_before.Given as goal
 
 abbrev pub invariant-loop-i : goal.invariant-loop-i

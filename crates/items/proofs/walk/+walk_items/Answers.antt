@@ -1,8 +1,3 @@
-use mathlib.Core.Path.{◌≡◌}
-use Prim.Native.Nat.{ℕ, ◌+◌, ◌*◌, ◌<◌, ◌≤◌}
-use lib.ListN.{length}
-use Rattle.contents.specs.Limits.{item_size, most_actions}
-use Rattle.items.specs.Items.{items_from, walked}
 use native.Mathlib.Omega.{arith}
 use Rattle.items.proofs.WalkLaws.{walked-small}
 use Rattle.items.proofs.WalkSteps.{walks, walk_none, walk_step}

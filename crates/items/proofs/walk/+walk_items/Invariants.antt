@@ -1,13 +1,10 @@
 -- The walk meets its contract: the items of a group are fewer than those of what holds it, so the count falls at each call. The invariant: what the
 -- items left are found to be is what all of them are found to be. Assumes nothing.
 use mathlib.Core.Path.{◌≡◌}
-use Prim.Native.Nat.{ℕ, ◌+◌, ◌*◌, ◌<◌, ◌≤◌}
+use Prim.Native.Nat.{◌+◌, ◌*◌, ◌≤◌}
 use lib.ListN.{length}
 use Rattle.contents.specs.Limits.{item_size, most_actions}
 use Rattle.items.specs.Items.{items_from, walked}
-use native.Mathlib.Omega.{arith}
-use Rattle.items.proofs.WalkLaws.{walked-small}
-use Rattle.items.proofs.WalkSteps.{walks, walk_none, walk_step}
 use Rattle.items.proofs.walk.+walk_items.Given as goal
 
 abbrev pub decreases-walk_items : goal.decreases-walk_items
