@@ -1,9 +1,3 @@
-use Prim.Native.Nat.{◌+◌, ◌*◌, ◌≤◌}
-use mathlib.Core.Path.{◌≡◌}
-use lib.ListN.{length}
-use Rattle.contents.specs.Limits.{message_size}
-use Rattle.contents.specs.Contents.{messages_at}
-use Rattle.messages.specs.Messages.{messages_right}
 use Rattle.messages.proofs.MessageSteps.{messages}
 use Rattle.messages.proofs.check_messages.Goals as goal
 

@@ -6,7 +6,6 @@ use lib.ListN.{length}
 use Rattle.contents.specs.Limits.{message_size}
 use Rattle.contents.specs.Contents.{messages_at}
 use Rattle.messages.specs.Messages.{messages_right}
-use Rattle.messages.proofs.MessageSteps.{messages}
 use Rattle.messages.proofs.check_messages.Given as goal
 
 abbrev pub invariant-loop-left : goal.invariant-loop-left

@@ -1,8 +1,3 @@
-use Prim.Native.Nat.{◌+◌, ◌≤◌}
-use mathlib.Core.Path.{◌≡◌}
-use lib.ListN.{length}
-use Rattle.contents.specs.Bytes.{part}
-use Rattle.messages.specs.Messages.{readable}
 use Rattle.messages.proofs.MessageSteps.{labels}
 use Rattle.messages.proofs.label_bytes.Goals as goal
 

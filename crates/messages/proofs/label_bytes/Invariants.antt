@@ -5,7 +5,6 @@ use mathlib.Core.Path.{◌≡◌}
 use lib.ListN.{length}
 use Rattle.contents.specs.Bytes.{part}
 use Rattle.messages.specs.Messages.{readable}
-use Rattle.messages.proofs.MessageSteps.{labels}
 use Rattle.messages.proofs.label_bytes.Given as goal
 
 abbrev pub invariant-loop-left : goal.invariant-loop-left
