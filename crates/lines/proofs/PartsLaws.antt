@@ -7,11 +7,11 @@ use Prim.Native.Nat.{ℕ, ◌≤◌}
 use native.Mathlib.Omega.{arith}
 use lib.Dec.{leb}
 use borrow.Author.Tests.{leb-true}
-use Rattle.base.specs.Tests.{pick, every}
+use Rattle.base.specs.Tests.{pick}
 use Rattle.base.proofs.TestLaws.{every-head, every_rest}
 use Rattle.ascii.specs.Numbers.{value}
 use Rattle.lines.specs.declared.Command.{Command}
-use Rattle.lines.specs.declared.Command.TheVariants.{Open, Hear, Pass, Bad}
+use Rattle.lines.specs.declared.Command.TheVariants.{Open, Bad}
 use Rattle.lines.specs.Commands.{most_parts, first_word, two_numbers, open_of, hear_of, pass_of, command_of}
 
 module _ (a b : ℕ) where

@@ -1,11 +1,10 @@
 -- What holds after an opening: a granted one leaves a session that says what the file says, and none touches the words past 8,192.
 -- A grant says that every check passed, and so the words are those of a new session. Assumes nothing.
-use mathlib.Core.Path.{◌≡◌, refl, sym, ◌∙◌}
+use mathlib.Core.Path.{◌≡◌, refl, sym}
 use mathlib.Core.Bool.{true, false}
 use mathlib.Core.List.{List}
 use Prim.Native.Nat.{ℕ, ◌<◌, ◌≤◌}
 use native.Mathlib.Omega.{arith}
-use lib.Count.{ones}
 use lib.ListN.{length, get_or, drop}
 use borrow.Author.Tests.{leb-true, ne_eqb}
 use Rattle.base.specs.Tests.{between}

@@ -1,6 +1,6 @@
 -- The opening in the code's own terms: what each way through the checks comes to, and the words of a new session, one table after the other.
 -- Assumes nothing.
-use mathlib.Core.Path.{◌≡◌, refl, sym, ◌∙◌}
+use mathlib.Core.Path.{◌≡◌, sym, ◌∙◌}
 use mathlib.Core.List.{List, [], ◌∷◌, map}
 use Prim.Native.Nat.{ℕ, ◌+◌}
 use lib.Count.{ones}
@@ -13,7 +13,7 @@ use Rattle.contents.specs.declared.Verdict.{Verdict}
 use Rattle.contents.specs.declared.Verdict.TheVariants.{Fine, Refused as faulty}
 use Rattle.contents.specs.Replies.{verdict_of}
 use Rattle.contents.specs.Contents.{counts_of}
-use Rattle.score.specs.File.{checked, Accepted}
+use Rattle.score.specs.File.{checked}
 use Rattle.score.specs.Piece.{decode}
 use Rattle.contents.proofs.Verdicts.{verdict-fine, verdict-refused}
 use Rattle.score.proofs.Accepted.{accepted-told}

@@ -1,11 +1,10 @@
 -- What a call answered, printed: its messages or its number, the opening's reply, the end.
 -- Assumes nothing.
-use mathlib.Core.Path.{◌≡◌, refl, sym, ◌∙◌}
-use mathlib.Core.Bool.{Bool, true}
+use mathlib.Core.Path.{◌≡◌, refl}
+use mathlib.Core.Bool.{true}
 use mathlib.Core.List.{List}
-use Prim.Native.Nat.{ℕ, ◌+◌, ◌*◌, ◌%◌, ◌≤◌}
+use Prim.Native.Nat.{ℕ, ◌*◌, ◌≤◌}
 use native.Mathlib.Omega.{arith}
-use lib.Dec.{eqb}
 use lib.ListN.{length}
 use borrow.Author.Rules.{rules}
 use Rattle.base.specs.Checks.{Check, fine, refused}
@@ -24,7 +23,7 @@ use Rattle.sequencer.specs.declared.Report.{Report}
 use Rattle.sequencer.specs.declared.ReportReply.{ReportReply}
 use Rattle.sequencer.specs.Replies.{report_reply}
 use Rattle.sequencer.specs.Calls.{SendingResult, heard_check, pass_check, noted, clock_after, sent_now, if_fine, heard_note, passing_time, reported}
-use Rattle.sequencer.proofs.GrantLaws.{Hearable, hearable, Passable, passable}
+use Rattle.sequencer.proofs.GrantLaws.{hearable, passable}
 use Rattle.lines.specs.Output.{no_line, end_line}
 use Rattle.playing.specs.Printed.{figures_of, sent_lines, sending_lines, carried_sending, ending}
 use Rattle.playing.specs.Inner.{Fits, Carries}

@@ -1,6 +1,6 @@
 -- A line carried out by what it asks for, in its turn.
 -- Assumes nothing.
-use mathlib.Core.Path.{◌≡◌, refl, sym, ap, ◌∙◌}
+use mathlib.Core.Path.{◌≡◌, refl, sym, ◌∙◌}
 use mathlib.Core.Bool.{Bool, true, false}
 use mathlib.Core.List.{List}
 use Prim.Native.Nat.{ℕ, ◌≤◌}
@@ -17,7 +17,7 @@ use Rattle.lines.specs.declared.Command.TheVariants.{Open, Hear, Pass, Bad}
 use Rattle.lines.specs.Commands.{most_parts, command_of, in_turn}
 use Rattle.lines.specs.Output.{bad_line}
 use Rattle.lines.proofs.PartsLaws.{command-parts}
-use Rattle.playing.specs.Printed.{Stand, carried_opening, carried_sending, carried_by, carried}
+use Rattle.playing.specs.Printed.{carried_opening, carried_sending, carried_by, carried}
 use Rattle.playing.specs.Inner.{Asked, Carries}
 
 -- ---- which lines are in turn

@@ -1,9 +1,9 @@
 -- An opening printed: its reply's number and parts, and a session on an accepted file only.
 -- Assumes nothing.
-use mathlib.Core.Path.{◌≡◌, refl, sym, ap, subst, ◌∙◌}
+use mathlib.Core.Path.{◌≡◌, refl, sym, subst, ◌∙◌}
 use mathlib.Core.Bool.{Bool, true, false}
 use mathlib.Core.List.{List, [], ◌∷◌}
-use Prim.Native.Nat.{ℕ, zero, suc, ◌+◌, ◌%◌, ◌≤◌}
+use Prim.Native.Nat.{ℕ, ◌%◌, ◌≤◌}
 use native.Mathlib.Omega.{arith}
 use lib.Dec.{leb, eqb}
 use lib.ListN.{length}
@@ -26,9 +26,8 @@ use Rattle.session.specs.declared.Refusal.TheVariants.{MemoryShort, RoomShort, F
 use Rattle.session.specs.Layout.{memory_size, most_tempo, most_grace}
 use Rattle.session.specs.Replies.{refusal_row}
 use Rattle.opening.specs.declared.Opening.{Opening}
-use Rattle.opening.specs.declared.Opening.TheVariants.{Refused}
 use Rattle.opening.specs.declared.OpeningReply.{OpeningReply}
-use Rattle.opening.specs.Opening.{OpeningResult, opening_check, opened}
+use Rattle.opening.specs.Opening.{opening_check, opened}
 use Rattle.opening.specs.Replies.{opening_reply}
 use Rattle.opening.proofs.Opened.{opened-accepted, refused-kept}
 use Rattle.lines.specs.Commands.{most_parts}

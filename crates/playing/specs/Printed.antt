@@ -1,5 +1,5 @@
 -- "The program `play` reads the file `score.bin` and commands from standard input": what is printed, from the bytes of the one and of the other, and a grace.
-use Rattle.std.specs.Prelude.{ℕ, ◌+◌, ◌/◌, ◌%◌, Bool, true, false, List, [], ◌∷◌, ◌++◌, eqb}
+use Rattle.std.specs.Prelude.{ℕ, ◌+◌, ◌/◌, ◌%◌, Bool, false, List, [], ◌∷◌, ◌++◌, eqb}
 use Rattle.score.specs.LookUp.{label_bytes}
 use Rattle.session.specs.Layout.{memory_size, room_size}
 use Rattle.session.specs.Replies.{refusal_row}

@@ -13,7 +13,7 @@ use Rattle.rules.specs.Terms.{Terms}
 use Rattle.rules.specs.Words.{Synchrony, loose, ErrorWord, local, global, partial, causal}
 use Rattle.rules.specs.Score.{Seq, end, action, group}
 use Rattle.rules.specs.Heard.{Taken, heard, missed, unsettled}
-use Rattle.rules.specs.Rules.{Reading, reading_of, Fate, past, global_start, missed_fate, Line, line, Holder, missed_group, enter, fate_of, run, perform, Triple, triples}
+use Rattle.rules.specs.Rules.{Reading, reading_of, Fate, past, global_start, missed_fate, Line, line, Holder, enter, fate_of, run, perform, Triple, triples}
 use Rattle.rules.specs.Page.{Entry, cast, cues}
 use Rattle.rules.specs.Groups.{perform_from, select, own_date, past_items, past_groups, split_of, slice, global_delay, Orderly}
 use Rattle.rules.specs.GroupWise.{sliced, GroupWise}

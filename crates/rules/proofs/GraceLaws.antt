@@ -1,7 +1,7 @@
 -- With a grace of 0 the rules split a missed group as document 01 does: split so, and with document 02's delay of a missed global group, they keep to its sentences, and
 -- nothing else does. And what no grace changes: the actions of a missed causal group, and all that is performed where no event is missed. Assumes nothing.
 use mathlib.Core.Path.{◌≡◌, refl, ap, ap₂, sym, ◌∙◌}
-use Prim.Native.Nat.{ℕ, ◌+◌, ◌-◌, ◌≤◌}
+use Prim.Native.Nat.{ℕ, ◌+◌, ◌≤◌}
 use mathlib.Core.Bool.{Bool, true, false, not}
 use mathlib.Core.List.{List, ◌++◌}
 use native.Mathlib.Omega.{arith}

@@ -1,7 +1,7 @@
 -- Each written action stands in the lines exactly once, whatever the reading; what is played is played at an event that was heard; and a newly heard event adds
 -- just what is played at it. By induction along the sequence, and by Events and Grow. Assumes nothing.
 use mathlib.Core.Path.{◌≡◌, refl, ap, ap₂, ◌∙◌}
-use Prim.Native.Nat.{ℕ, ◌+◌, ◌-◌}
+use Prim.Native.Nat.{ℕ, ◌+◌}
 use mathlib.Core.List.{List, [], ◌∷◌, ◌++◌, Memᴰ}
 use Rattle.rules.specs.Terms.{Terms}
 use Rattle.rules.specs.Score.{Seq, end, action, group}

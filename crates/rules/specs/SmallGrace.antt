@@ -7,7 +7,7 @@ use Rattle.rules.specs.Terms.{Terms}
 use Rattle.rules.specs.Words.{loose, tight, local, global, partial, causal, synchrony_of, error_of}
 use Rattle.rules.specs.Score.{Seq, end, action, group, total, E, more, last_by}
 use Rattle.rules.specs.Heard.{taken}
-use Rattle.rules.specs.Rules.{Outcome, played, dropped, Triple, triple, triples, keep, perform, top_holder, run, enter, outcome_of, fate_of, heard_fate, sliced_fate, missed_fate, global_start, past, future_date, reading_of}
+use Rattle.rules.specs.Rules.{played, dropped, Triple, triple, triples, keep, perform, top_holder, run, enter, outcome_of, fate_of, heard_fate, sliced_fate, missed_fate, global_start, past, future_date, reading_of}
 use Rattle.rules.specs.Page.{Cue, cues, cast, entries, entries_of, run_length, goes_on, sequence_of}
 use Rattle.rules.specs.Small.{events, a, b}
 use Rattle.rules.specs.SmallMore.{c, four, item_of, cue, Result, of_page, result_of, undecided_in, if_undecided, of_sequence}

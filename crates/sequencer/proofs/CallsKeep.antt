@@ -1,6 +1,6 @@
 -- What heard note and passing time keep, granted or refused, on any words: number 10's rule, the number of words, the words past 8,192, and the send room from the
 -- last message on. Assumes nothing.
-use mathlib.Core.Path.{◌≡◌, refl, sym, ap, ◌∙◌}
+use mathlib.Core.Path.{◌≡◌, refl}
 use mathlib.Core.Bool.{true}
 use mathlib.Core.List.{List}
 use Prim.Native.Nat.{ℕ, ◌+◌, ◌*◌, ◌≤◌, ◌<◌}

@@ -1,20 +1,19 @@
 -- "Words past 8,192 are never read": a call on any memory does to its first 8,192 words, to the send room and in its reply what it does on these words alone.
 -- Each step of a call reads and writes by places below 8,192. Assumes nothing.
-use mathlib.Core.Path.{◌≡◌, refl, sym, ap, ap₂, ◌∙◌}
+use mathlib.Core.Path.{◌≡◌, refl, sym, ap, ◌∙◌}
 use mathlib.Core.Bool.{Bool, true, false}
 use mathlib.Core.List.{List, [], ◌∷◌}
 use Prim.Native.Nat.{ℕ, zero, suc, ◌+◌, ◌-◌, ◌≤◌, ◌<◌}
 use native.Mathlib.Omega.{arith}
-use lib.Dec.{leb, eqb}
-use lib.ListN.{length, get_or, set, take, drop, length-take}
+use lib.Dec.{leb}
+use lib.ListN.{length, set, take, length-take}
 use lib.Seq.{get_or-take, take-take}
 use borrow.Author.Tests.{le-leb, lt-leb, leb-true, leb-false}
-use Rattle.base.specs.Tests.{pick, every}
+use Rattle.base.specs.Tests.{pick}
 use Rattle.base.specs.Checks.{Check, fine, refused}
-use Rattle.rules.specs.Page.{Cue, cues, entries}
+use Rattle.rules.specs.Page.{Cue}
 use Rattle.fates.specs.declared.Places.{Places}
 use Rattle.fates.specs.Fields.{outcome_word}
-use Rattle.fates.specs.Places.{reading_in, items_in}
 use Rattle.evaluators.specs.Performed.{write_all, performed}
 use Rattle.evaluators.proofs.FrameLaws.{reading-alike, items_alike}
 use Rattle.session.specs.declared.Refusal.{Refusal}
@@ -24,7 +23,7 @@ use Rattle.sending.specs.Sending.{slot_by, is_open, settled, is_due, message_at,
 use Rattle.sending.proofs.DueLaws.{due-cons, due-over, fired-cons, fired-over}
 use Rattle.sequencer.specs.Calls.{took_note, noted, headed, clock_after, SendingResult, sent_now, if_fine, heard_check, heard_note, pass_check, passing_time, report_check, reported}
 use Rattle.sequencer.proofs.NoteLaws.{noted-header}
-use Rattle.sequencer.proofs.GrantLaws.{Hearable, hearable, Passable, passable}
+use Rattle.sequencer.proofs.GrantLaws.{hearable, passable}
 
 -- The words that a call reads and writes.
 unfoldable pub first : List ℕ → List ℕ

@@ -1,8 +1,3 @@
-use mathlib.Core.Path.{◌≡◌}
-use Prim.Native.Nat.{◌-◌, ◌≤◌}
-use lib.ListN.{length}
-use Rattle.evaluators.specs.Inner.{owed_from}
-use Rattle.evaluators.specs.Performed.{performed}
 use Rattle.evaluators.proofs.PageLaws.{pages}
 use Rattle.evaluators.proofs.perform.Goals as goal
 

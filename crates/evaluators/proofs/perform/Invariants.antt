@@ -5,7 +5,6 @@ use Prim.Native.Nat.{◌-◌, ◌≤◌}
 use lib.ListN.{length}
 use Rattle.evaluators.specs.Inner.{owed_from}
 use Rattle.evaluators.specs.Performed.{performed}
-use Rattle.evaluators.proofs.PageLaws.{pages}
 use Rattle.evaluators.proofs.perform.Given as goal
 
 abbrev pub invariant-loop-place : goal.invariant-loop-place

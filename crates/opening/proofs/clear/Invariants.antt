@@ -2,12 +2,10 @@
 -- Assumes nothing.
 use mathlib.Core.Path.{◌≡◌}
 use mathlib.Core.List.{◌++◌}
-use borrow.Author.Rules.{rules}
 use Prim.Native.Nat.{◌-◌, ◌≤◌}
 use lib.ListN.{length, drop}
 use Rattle.session.specs.Layout.{memory_size}
 use Rattle.opening.specs.Opening.{zeros}
-use Rattle.opening.proofs.ClearSteps.{clearing, clear-more}
 use Rattle.opening.proofs.clear.Given as goal
 
 abbrev pub invariant-loop-i : goal.invariant-loop-i

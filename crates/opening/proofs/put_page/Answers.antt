@@ -1,11 +1,3 @@
-use mathlib.Core.Path.{◌≡◌}
-use mathlib.Core.List.{map}
-use Prim.Native.Nat.{◌+◌, ◌-◌, ◌≤◌}
-use lib.ListN.{length, drop}
-use Rattle.score.specs.Piece.{decode}
-use Rattle.fates.specs.Fields.{item_word}
-use Rattle.session.specs.Layout.{page_at}
-use Rattle.opening.specs.Opening.{with_words}
 use Rattle.opening.proofs.ListLaws.{kept-length}
 use Rattle.opening.proofs.WriteSteps.{page_end, page-next}
 use borrow.Author.Rules.{rules}

@@ -8,9 +8,6 @@ use Rattle.score.specs.Piece.{decode}
 use Rattle.fates.specs.Fields.{item_word}
 use Rattle.session.specs.Layout.{page_at}
 use Rattle.opening.specs.Opening.{with_words}
-use Rattle.opening.proofs.ListLaws.{kept-length}
-use Rattle.opening.proofs.WriteSteps.{page_end, page-next}
-use borrow.Author.Rules.{rules}
 use Rattle.opening.proofs.put_page.Given as goal
 
 abbrev pub invariant-loop-p : goal.invariant-loop-p

@@ -1,10 +1,3 @@
-use mathlib.Core.Path.{◌≡◌}
-use Prim.Native.Nat.{◌+◌, ◌-◌, ◌*◌, ◌≤◌}
-use lib.ListN.{length, drop}
-use Rattle.contents.specs.Limits.{longest}
-use Rattle.score.specs.Piece.{decode}
-use Rattle.session.specs.Layout.{starts_at}
-use Rattle.opening.specs.Opening.{with_words, starts_of}
 use Rattle.opening.proofs.ListLaws.{kept-length}
 use Rattle.opening.proofs.WriteSteps.{starts-end, starts-next}
 use borrow.Author.Rules.{rules}

@@ -7,9 +7,6 @@ use Rattle.contents.specs.Limits.{longest}
 use Rattle.score.specs.Piece.{decode}
 use Rattle.session.specs.Layout.{starts_at}
 use Rattle.opening.specs.Opening.{with_words, starts_of}
-use Rattle.opening.proofs.ListLaws.{kept-length}
-use Rattle.opening.proofs.WriteSteps.{starts-end, starts-next}
-use borrow.Author.Rules.{rules}
 use Rattle.opening.proofs.put_starts.Given as goal
 
 abbrev pub invariant-loop-k : goal.invariant-loop-k

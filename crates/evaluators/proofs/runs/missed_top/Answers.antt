@@ -1,10 +1,4 @@
-use mathlib.Core.Path.{◌≡◌}
-use Prim.Native.Nat.{◌-◌, ◌≤◌}
 use native.Mathlib.Omega.{arith}
-use lib.ListN.{length}
-use Rattle.rules.specs.Rules.{missed_top}
-use Rattle.rules.specs.Page.{levels}
-use Rattle.evaluators.specs.Inner.{latest_at, Lent, owed}
 use Rattle.evaluators.proofs.WalkLaws.{top-step, lent-on, bodies}
 use Rattle.evaluators.proofs.runs.missed_top.Goals as goal
 

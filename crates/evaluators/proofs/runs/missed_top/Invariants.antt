@@ -2,12 +2,10 @@
 -- The measure is how many are left. Assumes nothing.
 use mathlib.Core.Path.{◌≡◌}
 use Prim.Native.Nat.{◌-◌, ◌≤◌}
-use native.Mathlib.Omega.{arith}
 use lib.ListN.{length}
 use Rattle.rules.specs.Rules.{missed_top}
 use Rattle.rules.specs.Page.{levels}
 use Rattle.evaluators.specs.Inner.{latest_at, Lent, owed}
-use Rattle.evaluators.proofs.WalkLaws.{top-step, lent-on, bodies}
 use Rattle.evaluators.proofs.runs.missed_top.Given as goal
 
 abbrev pub invariant-loop-left : goal.invariant-loop-left

@@ -1,8 +1,3 @@
-use mathlib.Core.Path.{◌≡◌}
-use Prim.Native.Nat.{◌+◌, ◌-◌, ◌≤◌}
-use lib.ListN.{drop}
-use Rattle.rules.specs.Page.{run_length}
-use Rattle.fates.specs.Places.{items_in}
 use Rattle.evaluators.proofs.RunLaws.{running}
 use Rattle.evaluators.proofs.runs.run_length.Goals as goal
 

@@ -5,7 +5,6 @@ use Prim.Native.Nat.{◌+◌, ◌-◌, ◌≤◌}
 use lib.ListN.{drop}
 use Rattle.rules.specs.Page.{run_length}
 use Rattle.fates.specs.Places.{items_in}
-use Rattle.evaluators.proofs.RunLaws.{running}
 use Rattle.evaluators.proofs.runs.run_length.Given as goal
 
 abbrev pub invariant-loop-n : goal.invariant-loop-n

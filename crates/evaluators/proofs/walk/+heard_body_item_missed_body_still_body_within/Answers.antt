@@ -1,11 +1,4 @@
-use Prim.Native.Nat.{ℕ, ◌+◌, ◌-◌, ◌*◌, ◌<◌, ◌≤◌}
-use mathlib.Core.Path.{◌≡◌}
 use native.Mathlib.Omega.{arith}
-use lib.ListN.{length}
-use Rattle.rules.specs.declared.Synchrony.TheVariants.{Loose as loose}
-use Rattle.rules.specs.declared.ErrorWord.TheVariants.{Local as local}
-use Rattle.rules.specs.Rules.{heard_group, missed_group, enter}
-use Rattle.evaluators.specs.Inner.{latest_at, Lent, owed}
 use Rattle.evaluators.proofs.WalkLaws.{heard-step, missed-step, still-step, lent-on, bodies, items, fates}
 use Rattle.evaluators.proofs.walk.+heard_body_item_missed_body_still_body_within.Goals as goal
 

@@ -1,14 +1,12 @@
 -- Heard and missed groups, what lies within them and their items, each by the step laws. The invariant of a walk: what is owed for the items that are left is
 -- what was owed at first. The falling number is the levels and the items that are left, three times, and 2 for a group, 1 for its walk, 0 for an item. Assumes nothing.
-use Prim.Native.Nat.{ℕ, ◌+◌, ◌-◌, ◌*◌, ◌<◌, ◌≤◌}
+use Prim.Native.Nat.{◌+◌, ◌-◌, ◌*◌, ◌≤◌}
 use mathlib.Core.Path.{◌≡◌}
-use native.Mathlib.Omega.{arith}
 use lib.ListN.{length}
 use Rattle.rules.specs.declared.Synchrony.TheVariants.{Loose as loose}
 use Rattle.rules.specs.declared.ErrorWord.TheVariants.{Local as local}
 use Rattle.rules.specs.Rules.{heard_group, missed_group, enter}
 use Rattle.evaluators.specs.Inner.{latest_at, Lent, owed}
-use Rattle.evaluators.proofs.WalkLaws.{heard-step, missed-step, still-step, lent-on, bodies, items, fates}
 use Rattle.evaluators.proofs.walk.+heard_body_item_missed_body_still_body_within.Given as goal
 
 abbrev pub decreases-heard_body : goal.decreases-heard_body

@@ -1,6 +1,3 @@
-use Prim.Native.Nat.{◌+◌, ◌≤◌}
-use mathlib.Core.Path.{◌≡◌}
-use Rattle.fates.specs.Places.{start_at, halved, reading_in}
 use Rattle.fates.proofs.HalvingLaws.{halvings}
 use Rattle.fates.proofs.dates.last_by.Goals as goal
 

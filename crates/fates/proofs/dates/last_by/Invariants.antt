@@ -3,7 +3,6 @@
 use Prim.Native.Nat.{◌+◌, ◌≤◌}
 use mathlib.Core.Path.{◌≡◌}
 use Rattle.fates.specs.Places.{start_at, halved, reading_in}
-use Rattle.fates.proofs.HalvingLaws.{halvings}
 use Rattle.fates.proofs.dates.last_by.Given as goal
 
 abbrev pub invariant-loop-size : goal.invariant-loop-size

@@ -1,6 +1,4 @@
-use Prim.Native.Nat.{◌-◌, ◌≤◌}
-use lib.ListN.{length}
-use Rattle.playing.proofs.SentSteps.{Printing, messages}
+use Rattle.playing.proofs.SentSteps.{messages}
 use Rattle.playing.proofs.sendings.put_messages.Goals as goal
 
 pub loop-i-init : goal.loop-i-init

@@ -1,8 +1,7 @@
 -- The messages so far are printed, one behind the other, and there is room for those that are left.
 -- Assumes nothing.
 use Prim.Native.Nat.{◌-◌, ◌≤◌}
-use lib.ListN.{length}
-use Rattle.playing.proofs.SentSteps.{Printing, messages}
+use Rattle.playing.proofs.SentSteps.{Printing}
 use Rattle.playing.proofs.sendings.put_messages.Given as goal
 
 abbrev pub invariant-loop-i : goal.invariant-loop-i

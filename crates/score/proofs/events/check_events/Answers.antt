@@ -1,9 +1,3 @@
-use Prim.Native.Nat.{◌+◌, ◌*◌, ◌≤◌}
-use mathlib.Core.Path.{◌≡◌}
-use lib.ListN.{length}
-use Rattle.contents.specs.Limits.{event_size}
-use Rattle.contents.specs.Contents.{events_at}
-use Rattle.score.specs.Events.{durations_at, events_right}
 use Rattle.score.proofs.EventSteps.{events}
 use Rattle.score.proofs.events.check_events.Goals as goal
 

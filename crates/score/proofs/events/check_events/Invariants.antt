@@ -6,7 +6,6 @@ use lib.ListN.{length}
 use Rattle.contents.specs.Limits.{event_size}
 use Rattle.contents.specs.Contents.{events_at}
 use Rattle.score.specs.Events.{durations_at, events_right}
-use Rattle.score.proofs.EventSteps.{events}
 use Rattle.score.proofs.events.check_events.Given as goal
 
 abbrev pub invariant-loop-left : goal.invariant-loop-left

@@ -1,5 +1,4 @@
-use Rattle.std.proofs.Common.{◌≡◌, ◌-◌, ◌≤◌, length, rules}
-use Rattle.sending.specs.Sending.{settled}
+use Rattle.std.proofs.Common.{rules}
 use Rattle.sending.proofs.SlotLaws.{settled-step, settled-end, settled-start}
 use Rattle.sending.proofs.slots.settle.Goals as goal
 

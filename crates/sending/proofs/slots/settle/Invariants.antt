@@ -1,8 +1,7 @@
 -- What is owed from the place on, of the words as they are, is what was owed of the words at entry.
 -- Assumes nothing.
-use Rattle.std.proofs.Common.{◌≡◌, ◌-◌, ◌≤◌, length, rules}
+use Rattle.std.proofs.Common.{◌≡◌, ◌-◌, ◌≤◌, length}
 use Rattle.sending.specs.Sending.{settled}
-use Rattle.sending.proofs.SlotLaws.{settled-step, settled-end, settled-start}
 use Rattle.sending.proofs.slots.settle.Given as goal
 
 abbrev pub invariant-loop-place : goal.invariant-loop-place

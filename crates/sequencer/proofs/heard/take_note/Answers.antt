@@ -1,9 +1,6 @@
-use mathlib.Core.Path.{◌≡◌}
-use Prim.Native.Nat.{◌+◌, ◌-◌, ◌≤◌}
 use native.Mathlib.Omega.{arith}
-use lib.ListN.{length, length-set}
+use lib.ListN.{length-set}
 use borrow.Author.Rules.{rules}
-use Rattle.sequencer.specs.Calls.{took_note}
 use Rattle.sequencer.proofs.NoteLaws.{took-step, took-done}
 use Rattle.sequencer.proofs.heard.take_note.Goals as goal
 

@@ -2,11 +2,8 @@
 -- Assumes nothing.
 use mathlib.Core.Path.{◌≡◌}
 use Prim.Native.Nat.{◌+◌, ◌-◌, ◌≤◌}
-use native.Mathlib.Omega.{arith}
-use lib.ListN.{length, length-set}
-use borrow.Author.Rules.{rules}
+use lib.ListN.{length}
 use Rattle.sequencer.specs.Calls.{took_note}
-use Rattle.sequencer.proofs.NoteLaws.{took-step, took-done}
 use Rattle.sequencer.proofs.heard.take_note.Given as goal
 
 abbrev pub invariant-loop-k : goal.invariant-loop-k
