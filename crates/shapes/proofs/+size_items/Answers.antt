@@ -1,9 +1,4 @@
-use mathlib.Core.Path.{◌≡◌}
-use Prim.Native.Nat.{ℕ, ◌+◌, ◌-◌, ◌≤◌, ◌<◌}
 use native.Mathlib.Omega.{arith}
-use Rattle.contents.specs.Limits.{most_items, most_actions, deepest}
-use Rattle.shapes.specs.Shapes.{shapes_from, unfolded}
-use Rattle.shapes.specs.Sizes.{told_from}
 use Rattle.shapes.proofs.SizeSteps.{inner-most, size_few, size-fewer, size_step, sizing}
 use Rattle.shapes.proofs.+size_items.Goals as goal
 
@@ -52,11 +47,11 @@ overflow_mul-factor t c = search sizing
 pub size_items-w-requires : goal.size_items-w-requires
 size_items-w-requires t c =
     let bound = c.own_at-o.ensures.1 in
-    let asked = c.requires.1 in (
-      omega (arith, c.requires.0, bound.some, c.if-deeper-gt-DEEPEST.false, asked.depth),
+    let asked = c.requires in (
+      omega (arith, bound.some, asked.depth),
       record {
         table = omega (arith, c.smaller-body.ensures, c.loop-left-test.true, c.loop-left.invariant.0, c.loop-left.invariant.1, asked.table);
-        depth = c.if-deeper-gt-DEEPEST.false;
+        depth = omega arith;
         factor = inner-most _ _ asked.factor bound _ c.if-more-gt-MOST_ITEMS.false;
         items = c.if-more-gt-MOST_ITEMS.false;
         actions = c.if-sent-gt-MOST_ACTIONS.false;
@@ -65,9 +60,6 @@ size_items-w-requires t c =
 
 pub enum_known-w : goal.enum_known-w
 enum_known-w t c = search sizing
-
-pub enum_told-1 : goal.enum_told-1
-enum_told-1 t c = search sizing
 
 pub returns-in_default : goal.returns-in_default
 returns-in_default t c = search sizing
@@ -80,11 +72,11 @@ smaller-passed-requires t c = search sizing
 
 pub overflow_add-passed : goal.overflow_add-passed
 overflow_add-passed t c =
-    omega (arith, c.smaller-passed.ensures, c.loop-left-test.true, c.loop-left.invariant.0, c.loop-left.invariant.1, c.ranges.count, c.ranges.at, c.requires.1.table)
+    omega (arith, c.smaller-passed.ensures, c.loop-left-test.true, c.loop-left.invariant.0, c.loop-left.invariant.1, c.ranges.count, c.ranges.at, c.requires.table)
 
 pub overflow_add-i-in-loop-left : goal.overflow_add-i-in-loop-left
 overflow_add-i-in-loop-left t c =
-    omega (arith, c.smaller-passed.ensures, c.loop-left-test.true, c.loop-left.invariant.0, c.loop-left.invariant.1, c.ranges.count, c.ranges.at, c.requires.1.table)
+    omega (arith, c.smaller-passed.ensures, c.loop-left-test.true, c.loop-left.invariant.0, c.loop-left.invariant.1, c.ranges.count, c.ranges.at, c.requires.table)
 
 pub overflow_sub-left-in-loop-left-2 : goal.overflow_sub-left-in-loop-left-2
 overflow_sub-left-in-loop-left-2 t c = search sizing
@@ -100,8 +92,8 @@ loop-left-preserved t c =
     let opened = c.smaller-body.ensures in
     let walked = c.size_items-w.ensures in
     let within = c.in-Within.is in (
-      omega (arith, c.smaller-passed.ensures, c.loop-left-test.true, c.loop-left.invariant.0, c.loop-left.invariant.1, c.ranges.count, c.ranges.at, c.requires.1.table),
-      omega (arith, c.smaller-passed.ensures, c.loop-left-test.true, c.loop-left.invariant.0, c.loop-left.invariant.1, c.ranges.count, c.ranges.at, c.requires.1.table),
+      omega (arith, c.smaller-passed.ensures, c.loop-left-test.true, c.loop-left.invariant.0, c.loop-left.invariant.1, c.ranges.count, c.ranges.at, c.requires.table),
+      omega (arith, c.smaller-passed.ensures, c.loop-left-test.true, c.loop-left.invariant.0, c.loop-left.invariant.1, c.ranges.count, c.ranges.at, c.requires.table),
       size_few _ _ _ _ _ _ _ _ all some _ o _ opened _ walked _ _ within,
       size-fewer _ _ _ _ _ _ _ _ all some _ o _ opened _ walked _ _ within,
       size_step _ _ _ _ _ _ _ _ all some _ o _ opened _ walked _ _ within _ c.smaller-passed.ensures,

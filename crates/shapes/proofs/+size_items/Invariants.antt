@@ -1,12 +1,10 @@
 -- The walk meets its contract: a body is at least one level deeper than what holds it, so the levels left fall at each call. The invariant: what is told of the
 -- items left, besides what was found, is what is told of all. Assumes nothing.
 use mathlib.Core.Path.{◌≡◌}
-use Prim.Native.Nat.{ℕ, ◌+◌, ◌-◌, ◌≤◌, ◌<◌}
-use native.Mathlib.Omega.{arith}
+use Prim.Native.Nat.{◌+◌, ◌-◌, ◌≤◌}
 use Rattle.contents.specs.Limits.{most_items, most_actions, deepest}
 use Rattle.shapes.specs.Shapes.{shapes_from, unfolded}
 use Rattle.shapes.specs.Sizes.{told_from}
-use Rattle.shapes.proofs.SizeSteps.{inner-most, size_few, size-fewer, size_step, sizing}
 use Rattle.shapes.proofs.+size_items.Given as goal
 
 abbrev pub decreases-size_items : goal.decreases-size_items
