@@ -95,6 +95,11 @@ item-tells bs = go (item bs) refl (item-itemed bs) where
   go (got (send d n) left) e sent_item = tells (of_send e)
   go (got (group d w v) left) e item_of_group = tells (of_group e)
   go (stop left) e no_item = tells_none
+  go (got heading left) e i = elim i [ ]
+  go (got (message l) left) e i = elim i [ ]
+  go (got (event g) left) e i = elim i [ ]
+  go (got (part p) left) e i = elim i [ ]
+  go (got close left) e i = elim i [ ]
 
 closed-tells : (bs : List ℕ) → Tells bs (closed bs)
 unfolding closed pick

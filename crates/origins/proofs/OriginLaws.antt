@@ -77,7 +77,7 @@ pub data ItemRead (i : Item) : List ℕ → Type 0 where
   send_read : {bs rest : List ℕ} → i.kind ≡ 0 → item bs ≡ got (send i.delay.0 i.last) rest → ItemRead i bs
   group_read : {bs rest : List ℕ} → i.kind ≡ 1 → item bs ≡ got (group i.delay.0 i.synchrony i.error) rest → ItemRead i bs
 
-items-made : (e p depth : ℕ) {t : List ℕ} {ps : List Placed} {s : Script} → Stand t ps s → Makes t Items ItemRead ps (items_of e p depth s)
+items-made : {t : List ℕ} (e p depth : ℕ) {ps : List Placed} {s : Script} → Stand t ps s → Makes t Items ItemRead ps (items_of e p depth s)
 unfolding items_of adds count_of
 items-made e p depth at_end = makes_none
 items-made e p depth at_fault = makes_none

@@ -30,7 +30,7 @@ use Rattle.origins.specs.declared.aims.Aim.{Aim}
 use Rattle.origins.specs.declared.aims.Aim.TheVariants.{Nothing, TextEnd, ListEnd, Past}
 use Rattle.origins.specs.declared.seeking.Sought.{Sought}
 use Rattle.origins.specs.declared.seeking.Sought.TheVariants as sought
-use Rattle.origins.specs.Origins.{Placed, placed_lines, adds, count_of, token_in, Origin, unmade, from, passing, list_end, contents_origins, origin_in, origin_of, place_of, place_in_text}
+use Rattle.origins.specs.Origins.{Placed, placed_lines, adds, count_of, token_in, is_listed, Origin, unmade, from, passing, list_end, contents_origins, origin_in, origin_of, place_of, place_in_text}
 use Rattle.origins.specs.Aims.{no_place, Says, event_aim, field_aims, aim_at, share_of, hits_in, aim_behind, ended_as, sought_in, origin_as, Lies, lies_nothing, lies_at, Finds}
 
 -- ---- what is looked for among the lines, by its case
@@ -38,22 +38,22 @@ use Rattle.origins.specs.Aims.{no_place, Says, event_aim, field_aims, aim_at, sh
 seek-nothing : (e : List ℕ) (ps : List Placed) → sought_in Nothing e ps ≡ unmade
 unfolding sought_in ended_as hits_in aim_behind pick
 seek-nothing e [] = refl
-seek-nothing e (p ∷ ps) = seek-nothing _ ps
+seek-nothing e (p ∷ ps) = seek-nothing (pick (is_listed p.line) p.left e) ps
 
 seek-text-end : (e : List ℕ) (ps : List Placed) → sought_in TextEnd e ps ≡ from []
 unfolding sought_in ended_as hits_in aim_behind pick
 seek-text-end e [] = refl
-seek-text-end e (p ∷ ps) = seek-text-end _ ps
+seek-text-end e (p ∷ ps) = seek-text-end (pick (is_listed p.line) p.left e) ps
 
 seek-list-end : (e : List ℕ) (ps : List Placed) → sought_in ListEnd e ps ≡ from (list_end e ps)
 unfolding sought_in ended_as hits_in aim_behind list_end pick
 seek-list-end e [] = refl
-seek-list-end e (p ∷ ps) = seek-list-end _ ps
+seek-list-end e (p ∷ ps) = seek-list-end (pick (is_listed p.line) p.left e) ps
 
 seek-past : (k : Table) (n : ℕ) (e : List ℕ) (ps : List Placed) → sought_in (Past k n) e ps ≡ passing k n ps
 unfolding sought_in ended_as hits_in aim_behind share_of passing
 seek-past k n e [] = refl
-seek-past k n e (p ∷ ps) = ap (λ (o : Origin). pick (ltb n (count_of k (adds p.line))) (from (token_in p.line p.from)) o) (seek-past k _ _ ps)
+seek-past k n e (p ∷ ps) = ap (λ (o : Origin). pick (ltb n (count_of k (adds p.line))) (from (token_in p.line p.from)) o) (seek-past k (n - count_of k (adds p.line)) (pick (is_listed p.line) p.left e) ps)
 
 module _ (t : List ℕ) (c : Counts) (ps : List Placed) where
   seek-events : sought_in (event_aim c.events) t ps ≡ pick (eqb c.events 0) (from []) (passing Events most_events ps)

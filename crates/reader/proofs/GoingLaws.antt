@@ -16,7 +16,6 @@ use Rattle.text.specs.declared.Stage.{Stage}
 use Rattle.text.specs.declared.Stage.TheVariants.{Start}
 use Rattle.text.specs.Grammar.{heading, message, event, part, send, group, close, after, further, deeper, shallower, Script, more, script}
 use Rattle.text.specs.Said.{event_of, durations_of, items_of}
-use Rattle.script.specs.Stages.{held}
 use Rattle.script.specs.Balanced.{Balanced, heads, lists, times, parts, opens, closes}
 use Rattle.reader.specs.Items.{send_item, group_item}
 use Rattle.reader.proofs.RunLaws.{open_in, event-none, part_none, set-length, Chain, root, link, chain-append, chain-set, chain-open, less, run}

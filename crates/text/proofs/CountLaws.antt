@@ -79,11 +79,11 @@ unfolding counted_line counted_from durations_of items_of labels_of
 counted-summed c e p depth done = summed-none c
 counted-summed c e p depth (fault left) = summed-none c
 counted-summed c e p depth (more heading s) = counted-summed c e p depth s
-counted-summed c e p depth (more (message l) s) = counted-summed _ e p depth s ∙ summed-message c _ _ _ l
-counted-summed c e p depth (more (event g) s) = counted-summed _ (suc e) p depth s ∙ summed-event c _ _ _ g
+counted-summed c e p depth (more (message l) s) = counted-summed (counted_line (message l) c) e p depth s ∙ summed-message c _ _ _ l
+counted-summed c e p depth (more (event g) s) = counted-summed (counted_line (event g) c) (suc e) p depth s ∙ summed-event c _ _ _ g
 counted-summed c e p depth (more (part q) s) = counted-summed c e q depth s
-counted-summed c e p depth (more (send d n) s) = counted-summed _ e p depth s ∙ summed-send c _ _ _ d n _
-counted-summed c e p depth (more (group d w v) s) = counted-summed _ e p (suc depth) s ∙ summed-group c _ _ _ d w v _
+counted-summed c e p depth (more (send d n) s) = counted-summed (counted_line (send d n) c) e p depth s ∙ summed-send c _ _ _ d n _
+counted-summed c e p depth (more (group d w v) s) = counted-summed (counted_line (group d w v) c) e p (suc depth) s ∙ summed-group c _ _ _ d w v _
 counted-summed c e p depth (more close s) = counted-summed c e p (depth - 1) s
 
 -- The lines of a script, counted from nothing, are the counts of its piece.

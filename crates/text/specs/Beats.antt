@@ -1,5 +1,5 @@
 -- "Beats in lowest terms, without `/1`."
-use Rattle.std.specs.Prelude.{ℕ, zero, suc, ◌+◌, ◌-◌, ◌*◌, ◌/◌, ◌%◌, List, [], ◌∷◌, ◌++◌, eqb}
+use Rattle.std.specs.Prelude.{ℕ, zero, suc, ◌-◌, ◌*◌, ◌/◌, ◌%◌, List, [], ◌∷◌, ◌++◌, eqb}
 use Rattle.base.specs.Tests.{pick}
 use Rattle.ascii.specs.Decimals.{decimal}
 use Rattle.tokens.specs.Bytes.{slash}

@@ -1,7 +1,7 @@
 -- text  =  "messages" { number label }  { "event" beats { "part" number { item } } }
 -- item  =  beats "send" number  |  beats "group" [ "loose" | "tight" ] [ "local" | "global" | "partial" | "causal" ] "{" { item } "}"
 -- A text is read line by line: each line is the shortest run of tokens after which it is known what was said, wherever its newlines stand.
-use Rattle.std.specs.Prelude.{ℕ, zero, suc, ◌+◌, ◌-◌, Bool, true, false, List, [], ◌∷◌, eqb, ltb, length}
+use Rattle.std.specs.Prelude.{ℕ, zero, suc, ◌-◌, Bool, true, false, List, [], ◌∷◌, eqb, ltb, length}
 use Rattle.base.specs.Tests.{pick}
 use Rattle.tokens.specs.Bytes.{opening, closing, is_letter}
 use Rattle.tokens.specs.Tokens.{Read, got, stop, onward, blanks, behind, is_word, number, label}

@@ -3,7 +3,7 @@ use Rattle.std.specs.Prelude.{ℕ, zero, suc, ◌-◌, List, [], ◌∷◌, leng
 use Rattle.page.specs.declared.Item.{Item}
 use Rattle.score.specs.Piece.{Piece}
 use Rattle.text.specs.declared.Stage.TheVariants.{Start}
-use Rattle.text.specs.Grammar.{Line, heading, message, event, part, send, group, close, Script, done, more, fault, script}
+use Rattle.text.specs.Grammar.{heading, message, event, part, send, group, close, Script, done, more, fault, script}
 
 -- "The message list comes first, labels in quotes".
 unfoldable pub labels_of : Script → List (List ℕ)

@@ -1,5 +1,5 @@
 -- The text of a piece, "the one form".
-use Rattle.std.specs.Prelude.{ℕ, zero, suc, ◌+◌, ◌-◌, ◌*◌, Bool, true, false, List, [], ◌∷◌, ◌++◌, eqb, length, take, drop, replicate, get_or}
+use Rattle.std.specs.Prelude.{ℕ, zero, suc, ◌+◌, ◌-◌, ◌*◌, List, [], ◌∷◌, ◌++◌, eqb, length, take, drop, replicate, get_or}
 use Rattle.base.specs.Tests.{pick}
 use Rattle.ascii.specs.Words.{space, newline}
 use Rattle.ascii.specs.Text.{bytes_of}

@@ -28,7 +28,7 @@ use Rattle.extended.specs.Right.{item_of, extended_right}
 use Rattle.extended.proofs.RightLaws.{right-nests}
 use Rattle.unfolding.specs.Messages.{Entry, entries_bytes}
 use Rattle.unfolding.specs.Extended.{extended_of}
-use Rattle.unfolding.specs.Unfolded.{items, page}
+use Rattle.unfolding.specs.Unfolded.{page}
 use Rattle.unfolding.specs.Pieces.{label_in, labels_in, piece_of}
 use Rattle.unfolding.specs.Sizes.{Score, score_of, counts_on, within_limits, file_of}
 use Rattle.unfolding.specs.Answers.{unfolded_file}

@@ -24,7 +24,6 @@ use Rattle.extended.specs.Folds.{held_by}
 use Rattle.extended.specs.Points.{points_after}
 use Rattle.extended.specs.Right.{plain_right, own_right, item_of, end_of, ends_within, folds_right}
 use Rattle.extended.proofs.NestingLaws.{ends-within}
-use Rattle.unfolding.specs.Unfolded.{within_of as within, items}
 use Rattle.unfolding.proofs.Nesting.{Ends, end_is}
 use Rattle.unfolding.specs.Plain.{plain_item}
 
@@ -88,7 +87,7 @@ module _ (f : List ℕ) (k : ℕ) (i : Item) (b l : List Item) (at : At f k (i �
       let h : item_of f (k + 1 + length b + j) ≡ plain_item (get_or (b ++ l) (length b + j) blank) = rw s at (at (suc (length b + j)) (omega (arith, length-append b l))) in
       h ∙ ap plain_item (get_or-append-add b l j blank)
 
-pub lawful-ends : (f : List ℕ) (k : ℕ) {c : Counts} {h : Setting} {n m : ℕ} {is : List Item} → Walked c h n is m → At f k is → Ends f k (k + length is)
+pub lawful-ends : (f : List ℕ) {c : Counts} (k : ℕ) {h : Setting} {n m : ℕ} {is : List Item} → Walked c h n is m → At f k is → Ends f k (k + length is)
 lawful-ends f k walked_none at = record { ends = λ j p q. absurd (omega arith); held = λ i j p q r s. absurd (omega arith) }
 lawful-ends f k (walked_item {i = i} {b = b} {l = l} r e inner rest) at =
     let w = length b in

@@ -8,13 +8,15 @@ use native.Mathlib.Omega.{arith}
 use native.Mathlib.Nat.{le_trans}
 use lib.ListN.{length, length-map}
 use borrow.Author.Tests.{le-leb}
-use Rattle.base.specs.Checks.{fine, need, first_fault}
+use lib.Dec.{leb}
+use Rattle.base.specs.Checks.{Check, fine, refused, need, first_fault}
 use Rattle.score.specs.Piece.{decode}
 use Rattle.score.specs.File.{Accepted}
 use Rattle.rules.specs.Terms.{Terms}
 use Rattle.rules.specs.Rules.{reading_of}
 use Rattle.rules.specs.Page.{Entry, Cue, cues}
-use Rattle.session.specs.Layout.{memory_size, most_sent, clock_at, tempo_at, last_at, total_at, word_at}
+use Rattle.session.specs.declared.Refusal.TheVariants.{RoomShort}
+use Rattle.session.specs.Layout.{memory_size, most_sent, clock_at, tempo_at, last_at, total_at, word_at, room_size}
 use Rattle.session.specs.Parts.{sounds}
 use Rattle.session.specs.Session.{is_session}
 use Rattle.session.proofs.SessionRule.{session-header}
@@ -42,6 +44,13 @@ use Rattle.demands.proofs.MemoryAndHistory.Noted.{Noted, noted-says}
 pub record Does (f : List ℕ) (o : Terms) (total : ℕ) (n : Now) (l : List Sent) (room : List ℕ) (r : SendingResult) : Type 0 where
   pub answer : sending (sending_reply r.reply) r.room ≡ sending_answer fine l room
   pub holds : is_session r.memory ≡ true → Holds f o (total + length l) n r.memory
+
+-- ---- a check that is known to pass, behind another
+
+first-skip : {X : Type 0} (v : Check X) (l : List (Check X)) → first_fault (v ∷ fine ∷ l) ≡ first_fault (v ∷ l)
+unfolding first_fault
+first-skip fine l = refl
+first-skip (refused x) l = refl
 
 -- ---- how many rows
 
@@ -113,7 +122,7 @@ module _ (f : List ℕ) (accepted : Accepted f) (o : Terms) where
     module _ (room : List ℕ) (ms : ℕ) where
       pub pass-checked : pass_check m room ms ≡ verdict (length ds) s (pass room ms)
       unfolding pass_check clock_after verdict first_fault need
-      pass-checked = rw (le-leb memory_size (length m) holds.score.long, holds.session, holds.clock, holds.tempo)
+      pass-checked = rw (le-leb memory_size (length m) holds.score.long, holds.session, holds.clock, holds.tempo) (first-skip (need (leb room_size (length room)) RoomShort) _)
 
       pub pass-does : Does f o total (moved s (pass room ms)) (messages_of ds es s (pass room ms)) room (sent_now (clock_after m ms) (word_at m tempo_at) (word_at m last_at) m room)
       unfolding clock_after moved messages_of
@@ -127,7 +136,7 @@ module _ (f : List ℕ) (accepted : Accepted f) (o : Terms) where
     module _ (room : List ℕ) (h tempo : ℕ) where
       pub note-checked : heard_check m room h tempo ≡ verdict (length ds) s (note room h tempo)
       unfolding heard_check verdict first_fault need
-      note-checked = rw (le-leb memory_size (length m) holds.score.long, holds.session, holds.score.events, holds.last)
+      note-checked = rw (le-leb memory_size (length m) holds.score.long, holds.session, holds.score.events, holds.last) (first-skip (need (leb room_size (length room)) RoomShort) _)
 
       module _ (g : verdict (length ds) s (note room h tempo) ≡ fine) where
         fits : NextEvent (length ds) s.last h

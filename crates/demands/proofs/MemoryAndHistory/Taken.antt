@@ -47,7 +47,7 @@ took-within h (suc n) k m j p q l = go (leb j k) refl (λ r. took-within h n (k 
 -- ---- the list of the events heard
 
 -- After all of D, only what is heard later settles an event.
-taken-later : {D : List ℕ} (j : ℕ) (k : List ℕ) → Below j D → taken (D ++ k) j ≡ taken k j
+taken-later : (j : ℕ) (k : List ℕ) {D : List ℕ} → Below j D → taken (D ++ k) j ≡ taken k j
 unfolding taken
 taken-later j k nothing_heard = refl
 taken-later j k (heard_before {d = d} h b) = rw (le-ltb j d (omega arith), ne_eqb j d (λ e. omega arith), taken) (taken-later j k b)

@@ -1,6 +1,3 @@
-use Prim.Native.Nat.{◌-◌}
-use lib.ListN.{length}
-use Rattle.tokens.specs.Asked.{InBlanks}
 use Rattle.tokens.proofs.BlankSteps.{passing}
 use Rattle.tokens.proofs.blanks.past_blanks.Goals as goal
 

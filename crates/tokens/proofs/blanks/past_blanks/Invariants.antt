@@ -3,7 +3,6 @@
 use Prim.Native.Nat.{◌-◌}
 use lib.ListN.{length}
 use Rattle.tokens.specs.Asked.{InBlanks}
-use Rattle.tokens.proofs.BlankSteps.{passing}
 use Rattle.tokens.proofs.blanks.past_blanks.Given as goal
 
 abbrev pub invariant-loop-i : goal.invariant-loop-i

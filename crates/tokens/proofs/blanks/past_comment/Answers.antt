@@ -1,6 +1,4 @@
-use Prim.Native.Nat.{◌-◌}
-use lib.ListN.{length}
-use Rattle.tokens.proofs.BlankSteps.{InComment, commenting}
+use Rattle.tokens.proofs.BlankSteps.{commenting}
 use Rattle.tokens.proofs.blanks.past_comment.Goals as goal
 
 pub loop-i-init : goal.loop-i-init

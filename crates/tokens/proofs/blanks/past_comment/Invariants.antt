@@ -2,7 +2,7 @@
 -- Assumes nothing.
 use Prim.Native.Nat.{◌-◌}
 use lib.ListN.{length}
-use Rattle.tokens.proofs.BlankSteps.{InComment, commenting}
+use Rattle.tokens.proofs.BlankSteps.{InComment}
 use Rattle.tokens.proofs.blanks.past_comment.Given as goal
 
 abbrev pub invariant-loop-i : goal.invariant-loop-i

@@ -1,6 +1,3 @@
-use Prim.Native.Nat.{◌-◌}
-use lib.ListN.{length}
-use Rattle.tokens.specs.Asked.{InBlanks}
 use Rattle.tokens.proofs.BlankSteps.{spacing}
 use Rattle.tokens.proofs.blanks.past_spaces.Goals as goal
 

@@ -1,6 +1,4 @@
-use Prim.Native.Nat.{◌-◌}
-use lib.ListN.{length}
-use Rattle.tokens.proofs.LabelSteps.{Labelled, labels}
+use Rattle.tokens.proofs.LabelSteps.{labels}
 use Rattle.tokens.proofs.labels.label.Goals as goal
 
 pub stop-requires : goal.stop-requires

@@ -2,7 +2,7 @@
 -- Assumes nothing.
 use Prim.Native.Nat.{◌-◌}
 use lib.ListN.{length}
-use Rattle.tokens.proofs.LabelSteps.{Labelled, labels}
+use Rattle.tokens.proofs.LabelSteps.{Labelled}
 use Rattle.tokens.proofs.labels.label.Given as goal
 
 abbrev pub invariant-loop-i : goal.invariant-loop-i

@@ -1,7 +1,5 @@
-use Prim.Native.Nat.{◌-◌}
-use lib.ListN.{length}
 use borrow.Author.Rules.{rules}
-use Rattle.tokens.proofs.CopySteps.{Copying, copy_at, copy_more, copy-escape-fits, copy-escape, copying}
+use Rattle.tokens.proofs.CopySteps.{copy_at, copy_more, copy-escape-fits, copy-escape, copying}
 use Rattle.tokens.proofs.labels.put_label.Goals as goal
 
 pub overflow_add-i : goal.overflow_add-i

@@ -2,8 +2,7 @@
 -- Assumes nothing.
 use Prim.Native.Nat.{◌-◌}
 use lib.ListN.{length}
-use borrow.Author.Rules.{rules}
-use Rattle.tokens.proofs.CopySteps.{Copying, copy_at, copy_more, copy-escape-fits, copy-escape, copying}
+use Rattle.tokens.proofs.CopySteps.{Copying}
 use Rattle.tokens.proofs.labels.put_label.Given as goal
 
 abbrev pub invariant-loop-i : goal.invariant-loop-i

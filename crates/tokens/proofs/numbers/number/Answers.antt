@@ -1,6 +1,4 @@
-use Prim.Native.Nat.{◌+◌, ◌-◌}
-use lib.ListN.{length}
-use Rattle.tokens.proofs.NumberSteps.{Digits, numbers}
+use Rattle.tokens.proofs.NumberSteps.{numbers}
 use Rattle.tokens.proofs.numbers.number.Goals as goal
 
 pub loop-n-init : goal.loop-n-init

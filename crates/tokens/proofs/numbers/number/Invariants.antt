@@ -2,7 +2,7 @@
 -- Assumes nothing.
 use Prim.Native.Nat.{◌+◌, ◌-◌}
 use lib.ListN.{length}
-use Rattle.tokens.proofs.NumberSteps.{Digits, numbers}
+use Rattle.tokens.proofs.NumberSteps.{Digits}
 use Rattle.tokens.proofs.numbers.number.Given as goal
 
 abbrev pub invariant-loop-n : goal.invariant-loop-n

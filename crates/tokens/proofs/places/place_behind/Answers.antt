@@ -1,6 +1,4 @@
-use Prim.Native.Nat.{◌-◌}
-use lib.ListN.{length}
-use Rattle.tokens.proofs.PlaceSteps.{Placing, placing}
+use Rattle.tokens.proofs.PlaceSteps.{placing}
 use Rattle.tokens.proofs.places.place_behind.Goals as goal
 
 pub loop-i-init : goal.loop-i-init

@@ -2,7 +2,7 @@
 -- Assumes nothing.
 use Prim.Native.Nat.{◌-◌}
 use lib.ListN.{length}
-use Rattle.tokens.proofs.PlaceSteps.{Placing, placing}
+use Rattle.tokens.proofs.PlaceSteps.{Placing}
 use Rattle.tokens.proofs.places.place_behind.Given as goal
 
 abbrev pub invariant-loop-i : goal.invariant-loop-i

@@ -2,7 +2,7 @@
 -- Assumes nothing.
 use Prim.Native.Nat.{◌-◌}
 use lib.ListN.{length}
-use Rattle.tokens.proofs.WordSteps.{Compared, wording, word-step}
+use Rattle.tokens.proofs.WordSteps.{Compared}
 use Rattle.tokens.proofs.words.is_word.Given as goal
 
 abbrev pub invariant-loop-i : goal.invariant-loop-i

@@ -1,0 +1,47 @@
+use Rattle.folding.proofs.OwnSteps.{items-reached}
+use Rattle.folding.proofs.own.first_wrong.Goals as goal
+
+pub items_start-at-requires : goal.items_start-at-requires
+items_start-at-requires c = search items-reached
+
+pub points_start-p-requires : goal.points_start-p-requires
+points_start-p-requires c = search items-reached
+
+pub loop-number-init : goal.loop-number-init
+loop-number-init c = search items-reached
+
+pub folded_at-i-requires : goal.folded_at-i-requires
+folded_at-i-requires c = search items-reached
+
+pub own_right-requires : goal.own_right-requires
+own_right-requires c = search items-reached
+
+pub returns-then-not-own_right : goal.returns-then-not-own_right
+returns-then-not-own_right c = search items-reached
+
+pub points_of-taken-requires : goal.points_of-taken-requires
+points_of-taken-requires c = search items-reached
+
+pub overflow_mul-p : goal.overflow_mul-p
+overflow_mul-p c = search items-reached
+
+pub overflow_add-p : goal.overflow_add-p
+overflow_add-p c = search items-reached
+
+pub overflow_sub-left : goal.overflow_sub-left
+overflow_sub-left c = search items-reached
+
+pub overflow_add-at : goal.overflow_add-at
+overflow_add-at c = search items-reached
+
+pub overflow_add-number : goal.overflow_add-number
+overflow_add-number c = search items-reached
+
+pub loop-number-smaller : goal.loop-number-smaller
+loop-number-smaller c = search items-reached
+
+pub loop-number-preserved : goal.loop-number-preserved
+loop-number-preserved c = search items-reached
+
+pub returns : goal.returns
+returns c = search items-reached

@@ -1,0 +1,16 @@
+-- Past the text there is no digit.
+-- Assumes nothing.
+use Rattle.hints.proofs.MarkSteps.{decimals}
+use Rattle.hints.proofs.marks.digit_at.Goals as goal
+
+pub returns-then-text-at : goal.returns-then-text-at
+returns-then-text-at c = search decimals
+
+pub bounds-text-at : goal.bounds-text-at
+bounds-text-at c = search decimals
+
+pub is_digit-requires : goal.is_digit-requires
+is_digit-requires c = search decimals
+
+pub returns : goal.returns
+returns c = search decimals

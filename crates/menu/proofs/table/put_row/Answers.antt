@@ -1,0 +1,34 @@
+-- Each case is its own row, by definition.
+-- Assumes nothing.
+use Rattle.std.proofs.Common.{refl}
+use Rattle.menu.specs.Table.{row_of}
+use Rattle.menu.proofs.TableSteps.{row-case}
+use Rattle.menu.proofs.table.put_row.Goals as goal
+
+pub returns-in-Check : goal.returns-in-Check
+unfolding row_of
+returns-in-Check c = row-case c.in-Check.is c.lay_row.ensures refl
+
+pub returns-in-Play : goal.returns-in-Play
+unfolding row_of
+returns-in-Play c = row-case c.in-Play.is c.lay_row-in-Play.ensures refl
+
+pub returns-in-Read : goal.returns-in-Read
+unfolding row_of
+returns-in-Read c = row-case c.in-Read.is c.lay_row-in-Read.ensures refl
+
+pub returns-in-Write : goal.returns-in-Write
+unfolding row_of
+returns-in-Write c = row-case c.in-Write.is c.lay_row-in-Write.ensures refl
+
+pub returns-in-Unfold : goal.returns-in-Unfold
+unfolding row_of
+returns-in-Unfold c = row-case c.in-Unfold.is c.lay_row-in-Unfold.ensures refl
+
+pub returns-in-Replies : goal.returns-in-Replies
+unfolding row_of
+returns-in-Replies c = row-case c.in-Replies.is c.lay_row-in-Replies.ensures refl
+
+pub returns-in-Help : goal.returns-in-Help
+unfolding row_of
+returns-in-Help c = row-case c.in-Help.is c.lay_row-in-Help.ensures refl
