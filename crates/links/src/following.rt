@@ -5,10 +5,10 @@ ghost use Rattle.links.specs.Links.{is_link, turn_of, size_of, AtMost, most_link
 
 use crate::faults::reason;
 use crate::looking::{Kind, Way, look, way_by};
-use crate::paths::{NAME_TOO_LONG, NO_TEXT, Next, PATH_ROOM, go_to, is_systems};
+use crate::paths::{NAME_TOO_LONG, NO_TEXT, Next, PATH_ROOM, go_to, is_systems, text_of};
 use ascii::put_bytes;
 use std::rt::HostRuntime;
-use std::{fs, io, str};
+use std::{fs, io};
 
 const MOST_LINKS: u64 = 40;
 
@@ -105,10 +105,10 @@ fn read_link(rt: &HostRuntime, link: &[u8], target: &mut [u8]) -> Next
     requires { length link.now ≤ longest_path }
     ensures { AtMost (length target.new) result }
 {
-    let Ok(text) = str::from_utf8(link) else {
-        return Next::Failed(NO_TEXT);
-    };
-    size_by(lay_link(rt, text, target))
+    match text_of(link) {
+        Ok(text) => size_by(lay_link(rt, text, target)),
+        Err(error) => Next::Failed(error),
+    }
 }
 
 // Lays the path that a link leads to over the link's own. What the link's text has no room for is longer than any path.

@@ -4,10 +4,10 @@ ghost use Rattle.links.specs.Looking.{kind_of, found_of, way_of, has_bits, unsee
 ghost use Rattle.links.specs.Paths.{longest_path};
 
 use crate::faults::reason;
-use crate::paths::{LAST, NAME_TOO_LONG, NO_TEXT};
+use crate::paths::{LAST, NAME_TOO_LONG, text_of};
+use std::fs;
 use std::os::unix::fs::MetadataExt;
 use std::rt::HostRuntime;
-use std::{fs, str};
 use streams::error_number;
 
 // The error numbers of a path at which nothing stands, and of a folder where a file was asked for.
@@ -116,11 +116,13 @@ pub fn look(rt: &HostRuntime, path: &[u8]) -> Kind
     if LAST < path.len() {
         return Kind::Unseen(NAME_TOO_LONG);
     }
-    let Ok(text) = str::from_utf8(path) else {
-        return Kind::Unseen(NO_TEXT);
-    };
-    let asked = ask(rt, text);
-    kind_found(asked, asked.error)
+    match text_of(path) {
+        Ok(text) => {
+            let asked = ask(rt, text);
+            kind_found(asked, asked.error)
+        }
+        Err(error) => Kind::Unseen(error),
+    }
 }
 
 // Which way a file is saved where this stands.

@@ -1,8 +1,9 @@
 // Paths as bytes: the folder that a path names a file in, and where a link leads.
-ghost use Rattle.std.specs.Prelude.{◌≡◌, ◌≤◌, length};
-ghost use Rattle.links.specs.Paths.{folder_size, kept_size, is_systems, longest_path, path_room, Gone};
+ghost use Rattle.std.specs.Prelude.{◌≡◌, ◌≤◌, length, MatchResult, pos};
+ghost use Rattle.links.specs.Paths.{folder_size, kept_size, is_systems, longest_path, path_room, no_text, Gone};
 
 use ascii::{begins, put_bytes};
+use std::str;
 
 const SLASH: u8 = b'/';
 
@@ -21,6 +22,16 @@ pub const NO_TEXT: i32 = 84;
 pub enum Next {
     To(usize),
     Failed(i32),
+}
+
+// The path as std takes one: its own bytes, where they are text.
+pub fn text_of(path: &[u8]) -> Result<&str, i32>
+    ensures { MatchResult result (λ text. text.now ≡ path.now) (λ error. error ≡ pos no_text) }
+{
+    match str::from_utf8(path) {
+        Ok(text) => Ok(text),
+        Err(_) => Err(NO_TEXT),
+    }
 }
 
 // How many bytes of the path name its folder: those up to the last slash.

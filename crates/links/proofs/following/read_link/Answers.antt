@@ -3,8 +3,8 @@
 use Rattle.links.proofs.LinkSteps.{most-failed, size-within}
 use Rattle.links.proofs.following.read_link.Goals as goal
 
-pub returns-in_default : goal.returns-in_default
-returns-in_default c = most-failed _ _
+pub returns-in-Ok : goal.returns-in-Ok
+returns-in-Ok c = size-within _ _ _ c.lay_link.ensures c.size_by.ensures
 
-pub returns : goal.returns
-returns c = size-within _ _ _ c.lay_link.ensures c.size_by.ensures
+pub returns-in-Err : goal.returns-in-Err
+returns-in-Err c = most-failed _ _
