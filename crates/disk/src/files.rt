@@ -38,6 +38,7 @@ pub fn read_input<R: Read>(rt: &impl Clock, input: &mut R, buf: &mut [u8]) -> Fi
     read_by(read, read.error)
 }
 
+// The file, open for reading.
 pub fn open(rt: &HostRuntime, path: &[u8]) -> Opened {
     match text_of(path) {
         Ok(text) => opening(File::open(rt, text)),
