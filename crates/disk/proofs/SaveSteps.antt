@@ -2,11 +2,10 @@
 -- Assumes nothing.
 use mathlib.Core.Path.{◌≡◌, refl, sym, ap, ◌∙◌}
 use mathlib.Core.Bool.{Bool, true, false}
-use mathlib.Core.List.{List, [], ◌∷◌, ◌++◌}
+use mathlib.Core.List.{List, [], ◌∷◌}
 use Prim.Native.Nat.{ℕ, ◌+◌, ◌-◌, ◌<◌, ◌≤◌}
 use native.Mathlib.Omega.{arith}
-use lib.Dec.{eqb}
-use lib.IntN.{ℤ, pos, negsuc, nat_abs}
+use lib.IntN.{ℤ, pos, negsuc}
 use lib.ListN.{length, take, length-append}
 use mir.Syntax.{w32}
 use mir.Val.{SFits, of_z, to_z}
@@ -18,6 +17,7 @@ use Rattle.ascii.specs.Text.{bytes_of}
 use Rattle.ascii.specs.Words.{bytes_before, zero_digit}
 use Rattle.ascii.proofs.LayLaws.{laid-join}
 use Rattle.streams.proofs.CallSteps.{bits-say}
+use Rattle.std.specs.declared.fs.File.{File}
 use Rattle.links.specs.declared.faults.Step.{Step}
 use Rattle.links.specs.declared.faults.Step.TheVariants as step
 use Rattle.links.specs.declared.faults.Opened.{Opened}
@@ -28,7 +28,7 @@ use Rattle.disk.specs.declared.failures.Saved.{Saved}
 use Rattle.disk.specs.declared.failures.Saved.TheVariants as saved
 use Rattle.links.specs.Paths.{longest_path}
 use Rattle.links.specs.Faults.{reason_of}
-use Rattle.disk.specs.Files.{read_of, not_read, all_read, Told}
+use Rattle.disk.specs.Files.{read_of, all_read, Told}
 use Rattle.disk.specs.Saving.{part_name, IsPart, is_taken_by, is_taken, made_by, written_by, safe_by, renamed_by, settled_for, settled_by, not_made_long, not_made_zero}
 
 -- ---- a file read
@@ -41,13 +41,13 @@ pub read_done : (read : Filled) (e : ℤ) → read.failed ≡ false → all_read
 unfolding read_of
 read_done read e p = rw p refl
 
-told-either : (failed : Bool) (most count : ℕ) (e : ℤ) (r : FileRead) → count ≤ most → r ≡ read_of (record { count = count; failed = failed }) e → (r.count ≤ most) × Told r.count r.error
+told-either : (failed : Bool) (most count : ℕ) (left e : ℤ) (r : FileRead) → count ≤ most → r ≡ read_of (record { count = count; failed = failed; error = left }) e → (r.count ≤ most) × Told r.count r.error
 unfolding read_of
-told-either true most count e r p d = rw d (omega arith, λ n. refl)
-told-either false most count e r p d = rw d (p, λ n. absurd (n refl))
+told-either true most count left e r p d = rw d (omega arith, λ n. refl)
+told-either false most count left e r p d = rw d (p, λ n. absurd (n refl))
 
 pub read_told : (most : ℕ) (read : Filled) (e : ℤ) (r : FileRead) → read.count ≤ most → r ≡ read_of read e → (r.count ≤ most) × Told r.count r.error
-read_told most read e r p d = told-either read.failed most read.count e r p d
+read_told most read e r p d = told-either read.failed most read.count read.error e r p d
 
 pub ruleset reads = (read-failed, read_done, read_told, rules)
 
@@ -110,9 +110,9 @@ pub ruleset settling = (settled-done, settled-failed, settled-never, settled-tol
 
 -- ---- the other name
 
-pub not_taken : (o : Opened) (fd : ℤ) → o ≡ opened.At fd → false ≡ is_taken o
+pub not_taken : (o : Opened) (file : File) → o ≡ opened.At file → false ≡ is_taken o
 unfolding is_taken
-not_taken o fd p = ap is_taken (sym p)
+not_taken o file p = ap is_taken (sym p)
 
 pub taken-by : (o : Opened) (e : ℤ) (b : Bool) → SFits w32 e → o ≡ opened.Failed e → b ≡ is_taken_by (to_z w32 (of_z w32 e)) → b ≡ is_taken o
 unfolding is_taken

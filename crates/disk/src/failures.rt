@@ -4,6 +4,9 @@ ghost use Rattle.disk.specs.Saving.{made_by, written_by, safe_by, renamed_by, se
 
 use links::Step;
 
+// The error number of what can't be asked at all: a path that is none, a folder of a file system that makes none safe.
+pub const INVALID: i32 = 22;
+
 // The file is whole; or the step that failed, with its error number.
 #[derive(Clone, Copy)]
 pub enum Saved {
@@ -54,7 +57,7 @@ pub fn renamed_by(s: Step) -> Saved
 fn settled_for(error: i32) -> Saved
     ensures { result ≡ settled_for error }
 {
-    if error == libc::EINVAL {
+    if error == INVALID {
         return Saved::Whole;
     }
     Saved::NotSafe(error)

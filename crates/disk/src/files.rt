@@ -2,7 +2,10 @@
 ghost use Rattle.std.specs.Prelude.{◌≡◌, ◌≤◌, length};
 ghost use Rattle.disk.specs.Files.{read_of, Told};
 
-use links::{Opened, opening, reason};
+use links::{Opened, opening, reason, text_of};
+use std::fs::File;
+use std::io::Read;
+use std::rt::{Clock, HostRuntime};
 use streams::{Filled, read_whole};
 
 // How many bytes stand at the buffer's start, and the error number of a failure, which is 0 where all went well.
@@ -27,30 +30,28 @@ fn read_by(read: Filled, error: i32) -> FileRead
     }
 }
 
-// Reads an open descriptor until the buffer is full or the input ends.
-pub fn read_input(fd: i32, buf: &mut [u8]) -> FileRead
+// Reads an input until the buffer is full or the input ends.
+pub fn read_input<R: Read>(rt: &impl Clock, input: &mut R, buf: &mut [u8]) -> FileRead
     ensures { (result.count ≤ length buf.new) × Told result.count result.error }
 {
-    let read = read_whole(fd, buf);
-    read_by(read, os::errno())
+    let read = read_whole(rt, input, buf);
+    read_by(read, read.error)
 }
 
-fn open(path: &[u8]) -> Opened {
-    let fd = os::open_read(path);
-    opening(fd, os::errno())
+// The file, open for reading.
+pub fn open(rt: &HostRuntime, path: &[u8]) -> Opened {
+    match text_of(path) {
+        Ok(text) => opening(File::open(rt, text)),
+        Err(error) => Opened::Failed(error),
+    }
 }
 
 // Reads the file until the buffer is full or the file ends.
-pub fn read_file(path: &[u8], buf: &mut [u8]) -> FileRead
+pub fn read_file(rt: &HostRuntime, path: &[u8], buf: &mut [u8]) -> FileRead
     ensures { (result.count ≤ length buf.new) × Told result.count result.error }
 {
-    let o = open(path);
-    match o {
+    match open(rt, path) {
+        Opened::At(mut file) => read_input(rt, &mut file, buf),
         Opened::Failed(error) => FileRead { count: 0, error },
-        Opened::At(fd) => {
-            let read = read_input(fd, buf);
-            libc::close(fd);
-            read
-        }
     }
 }

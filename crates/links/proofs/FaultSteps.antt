@@ -1,20 +1,20 @@
 -- What a call to the system comes to, in the code's own terms: the machine's tests on a signed number's bits decide the cases of the definitions.
 -- Assumes nothing.
-use mathlib.Core.Path.{◌≡◌, refl, sym, ap, ◌∙◌}
+use mathlib.Core.Path.{◌≡◌, refl, ap, ◌∙◌}
 use mathlib.Core.Bool.{Bool, true, false}
-use Prim.Native.Nat.{ℕ, zero, suc}
+use Prim.Native.Nat.{zero, suc}
 use native.Mathlib.Omega.{arith}
 use lib.IntN.{ℤ, pos, negsuc, nat_abs}
-use lib.Signed.{lt_z}
 use mir.Syntax.{w32}
 use mir.Val.{SFits, of_z, to_z}
 use mir.Facts.{to_z-of_z}
-use borrow.Author.Tests.{ltb-true}
 use borrow.Author.Rules.{rules}
+use Rattle.std.specs.Prelude.{Result, Ok, Err, ⊤}
+use Rattle.std.specs.declared.io.Error.{Error}
+use Rattle.std.specs.declared.fs.File.{File}
+use Rattle.streams.specs.Outcomes.{number_of}
 use Rattle.streams.proofs.CallSteps.{bits-say}
-use Rattle.links.specs.declared.faults.Step.{Step}
 use Rattle.links.specs.declared.faults.Step.TheVariants as step
-use Rattle.links.specs.declared.faults.Opened.{Opened}
 use Rattle.links.specs.declared.faults.Opened.TheVariants as opened
 use Rattle.links.specs.Faults.{reason_of, step_of, step_if, opened_of}
 
@@ -41,21 +41,13 @@ pub ruleset reasoning = (reason-none, reason-given, rules)
 
 -- ---- a call by its answer
 
-below-zero : (z : ℤ) (e r : ℤ) → lt_z z (pos 0) ≡ true → r ≡ reason_of e → step.Failed r ≡ step_of z e
+pub step-failed : (a : Result ⊤ Error) (e : Error) (n r : ℤ) → SFits w32 n → a ≡ Err e → n ≡ number_of e → r ≡ reason_of (to_z w32 (of_z w32 n)) → step.Failed r ≡ step_of a
 unfolding step_of
-below-zero (pos n) e r p d = absurd (omega (arith, ltb-true n 0 p))
-below-zero (negsuc n) e r p d = ap step.Failed d
+step-failed a e n r f p q d = let h : r ≡ reason_of (number_of e) = d ∙ ap reason_of (to_z-of_z f ∙ q) in rw p (ap step.Failed h)
 
-from_zero : (z : ℤ) (e : ℤ) → lt_z z (pos 0) ≡ false → step.Done ≡ step_of z e
+pub step-done : (a : Result ⊤ Error) (u : ⊤) → a ≡ Ok u → step.Done ≡ step_of a
 unfolding step_of
-from_zero (pos n) e p = refl
-from_zero (negsuc n) e p = let z : ◌≡◌ {A = ℕ} 0 1 = cc in absurd (omega arith)
-
-pub step-failed : (z e r : ℤ) → SFits w32 z → SFits w32 e → lt_z (to_z w32 (of_z w32 z)) (pos 0) ≡ true → r ≡ reason_of (to_z w32 (of_z w32 e)) → step.Failed r ≡ step_of z e
-step-failed z e r f g p d = below-zero z e r (rw (← to_z-of_z f) p) (rw (← to_z-of_z g) d)
-
-pub step-done : (z e : ℤ) → SFits w32 z → lt_z (to_z w32 (of_z w32 z)) (pos 0) ≡ false → step.Done ≡ step_of z e
-step-done z e f p = from_zero z e (rw (← to_z-of_z f) p)
+step-done a u p = rw p refl
 
 pub if-done : (b : Bool) (e : ℤ) → b ≡ true → step.Done ≡ step_if b e
 unfolding step_if
@@ -65,24 +57,14 @@ pub if-failed : (b : Bool) (e r : ℤ) → SFits w32 e → b ≡ false → r ≡
 unfolding step_if
 if-failed b e r g p d = rw (p, ← to_z-of_z g) (ap step.Failed d)
 
-pub ruleset stepping = (step-failed, step-done, if-done, if-failed, rules)
+pub ruleset stepping = (if-done, if-failed, rules)
 
--- ---- a descriptor
+-- ---- an open file
 
-below_none : (z e r : ℤ) → lt_z z (pos 0) ≡ true → r ≡ reason_of e → opened.Failed r ≡ opened_of z e
+pub opened-none : (a : Result File Error) (e : Error) (n r : ℤ) → SFits w32 n → a ≡ Err e → n ≡ number_of e → r ≡ reason_of (to_z w32 (of_z w32 n)) → opened.Failed r ≡ opened_of a
 unfolding opened_of
-below_none (pos n) e r p d = absurd (omega (arith, ltb-true n 0 p))
-below_none (negsuc n) e r p d = ap opened.Failed d
+opened-none a e n r f p q d = let h : r ≡ reason_of (number_of e) = d ∙ ap reason_of (to_z-of_z f ∙ q) in rw p (ap opened.Failed h)
 
-from_some : (z e : ℤ) → lt_z z (pos 0) ≡ false → opened.At z ≡ opened_of z e
+pub opened_some : (a : Result File Error) (x : File) → a ≡ Ok x → opened.At x ≡ opened_of a
 unfolding opened_of
-from_some (pos n) e p = refl
-from_some (negsuc n) e p = let z : ◌≡◌ {A = ℕ} 0 1 = cc in absurd (omega arith)
-
-pub opened-none : (z e r : ℤ) → SFits w32 z → SFits w32 e → lt_z (to_z w32 (of_z w32 z)) (pos 0) ≡ true → r ≡ reason_of (to_z w32 (of_z w32 e)) → opened.Failed r ≡ opened_of z e
-opened-none z e r f g p d = below_none z e r (rw (← to_z-of_z f) p) (rw (← to_z-of_z g) d)
-
-pub opened_some : (z e : ℤ) → SFits w32 z → lt_z (to_z w32 (of_z w32 z)) (pos 0) ≡ false → opened.At z ≡ opened_of z e
-opened_some z e f p = from_some z e (rw (← to_z-of_z f) p)
-
-pub ruleset openings = (opened-none, opened_some, rules)
+opened_some a x p = rw p refl

@@ -5,18 +5,16 @@ use mathlib.Core.Bool.{Bool, true, false, cond, not}
 use mathlib.Core.List.{List}
 use Prim.Native.Nat.{ℕ, ◌+◌, ◌-◌, ◌<◌, ◌≤◌}
 use native.Mathlib.Omega.{arith}
-use lib.Dec.{T, ltb}
-use lib.IntN.{ℤ, pos, negsuc, nat_abs}
+use lib.Dec.{ltb}
+use lib.IntN.{ℤ, pos}
 use lib.ListN.{length, take}
-use lib.Signed.{lt_z, non_neg}
-use mir.Syntax.{w32, w64}
-use mir.Val.{Fits, SFits, of_z, to_z}
-use mir.Facts.{to_z-of_z, Fits-nat_abs}
+use mir.Syntax.{w32}
+use mir.Val.{SFits, of_z, to_z}
+use mir.Facts.{to_z-of_z}
 use borrow.Author.Tests.{lt-ltb, le-ltb, ltb-true, ltb-false, not-true, not-false}
 use borrow.Author.Rules.{rules}
-use Rattle.libc.specs.Io.{Moved}
+use Rattle.std.specs.Prelude.{Result, Ok, Err, IfOk}
 use Rattle.links.specs.declared.looking.Kind.{Kind}
-use Rattle.links.specs.declared.looking.Kind.TheVariants as kind
 use Rattle.links.specs.declared.looking.Way.{Way}
 use Rattle.links.specs.declared.looking.Way.TheVariants as way
 use Rattle.links.specs.declared.paths.Next.{Next}
@@ -64,41 +62,23 @@ pub ruleset counting = (turn-few, rules)
 
 -- ---- a link's text
 
-size-some : (z e : ℤ) → lt_z z (pos 0) ≡ false → next.To (nat_abs z) ≡ size_of z e
+pub size-told : (r : Result ℕ ℤ) (n : ℕ) → r ≡ Ok n → next.To n ≡ size_of r
 unfolding size_of
-size-some (pos n) e p = refl
-size-some (negsuc n) e p = let z : ◌≡◌ {A = ℕ} 0 1 = cc in absurd (omega arith)
+size-told r n p = rw p refl
 
-size_none : (z e r : ℤ) → lt_z z (pos 0) ≡ true → r ≡ reason_of e → next.Failed r ≡ size_of z e
+pub size-failed : (r : Result ℕ ℤ) (e n : ℤ) → SFits w32 e → r ≡ Err e → n ≡ reason_of (to_z w32 (of_z w32 e)) → next.Failed n ≡ size_of r
 unfolding size_of
-size_none (pos n) e r p d = absurd (omega (arith, ltb-true n 0 p))
-size_none (negsuc n) e r p d = ap next.Failed d
+size-failed r e n f p d = let h : n ≡ reason_of e = rw (← to_z-of_z f) d in rw p (ap next.Failed h)
 
-from_zero : (z : ℤ) → lt_z z (pos 0) ≡ false → T (non_neg z)
-from_zero (pos n) p = tt
-from_zero (negsuc n) p = let z : ◌≡◌ {A = ℕ} 0 1 = cc in absurd (omega arith)
+pub ruleset sizing = (size-told, size-failed, rules)
 
-module _ (z : ℤ) (f : SFits w64 z) where
-  pub size_fits : lt_z (to_z w64 (of_z w64 z)) (pos 0) ≡ false → T (non_neg (to_z w64 (of_z w64 z))) × Fits w64 (nat_abs (to_z w64 (of_z w64 z)))
-  size_fits p = (from_zero (to_z w64 (of_z w64 z)) p, rw (to_z-of_z f) (Fits-nat_abs tt f))
-
-  pub size-told : (e : ℤ) → lt_z (to_z w64 (of_z w64 z)) (pos 0) ≡ false → next.To (nat_abs (to_z w64 (of_z w64 z))) ≡ size_of z e
-  size-told e p = let q : lt_z z (pos 0) ≡ false = rw (← to_z-of_z f) p in rw (to_z-of_z f) (size-some z e q)
-
-  pub size-failed : (e r : ℤ) → SFits w32 e → lt_z (to_z w64 (of_z w64 z)) (pos 0) ≡ true → r ≡ reason_of (to_z w32 (of_z w32 e)) → next.Failed r ≡ size_of z e
-  size-failed e r g p d = size_none z e r (rw (← to_z-of_z f) p) (rw (← to_z-of_z g) d)
-
-pub ruleset sizing = (size_fits, size-told, size-failed, rules)
-
-size-moved : (most : ℕ) (z e : ℤ) → Moved most z → AtMost most (size_of z e)
+size-at-most : (most : ℕ) (r : Result ℕ ℤ) → IfOk r (λ n. n ≤ most) → AtMost most (size_of r)
 unfolding AtMost size_of
-size-moved most (pos n) e m = m
-size-moved most (negsuc n) e m = tt
+size-at-most most (Ok n) m = m
+size-at-most most (Err e) m = tt
 
-pub size-within : (most size : ℕ) (z e : ℤ) (r : Next) → SFits w64 z → size ≡ most → Moved most z → r ≡ size_of (to_z w64 (of_z w64 z)) e → AtMost size r
-size-within most size z e r f s m d = rw (d, to_z-of_z f, s) (size-moved most z e m)
-
-pub ruleset reading-link = (size-within, rules)
+pub size-within : (most : ℕ) (r : Result ℕ ℤ) (n : Next) → IfOk r (λ k. k ≤ most) → n ≡ size_of r → AtMost most n
+size-within most r n m d = rw d (size-at-most most r m)
 
 -- ---- the path that is reached
 

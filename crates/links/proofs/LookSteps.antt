@@ -1,40 +1,25 @@
 -- What stands at a path, in the code's own terms.
 -- Assumes nothing.
 use mathlib.Core.Path.{◌≡◌, refl, sym, ap, ◌∙◌}
-use mathlib.Core.Bool.{Bool, true, false}
-use mathlib.Core.List.{List}
+use mathlib.Core.Bool.{Bool, false}
 use Prim.Native.Nat.{ℕ, zero, suc, ◌<◌, ◌≤◌}
 use native.Mathlib.Omega.{arith}
 use lib.Bits.{bit_and}
 use lib.Dec.{eqb}
 use lib.IntN.{ℤ, pos, negsuc}
-use lib.ListN.{length, take, set}
-use lib.Seq.{take-set-le}
 use mir.Syntax.{w32}
 use mir.Val.{SFits, of_z, to_z}
 use mir.Facts.{to_z-of_z}
 use borrow.Author.Tests.{eq-eqb, ne_eqb}
 use borrow.Author.Rules.{rules}
-use Rattle.ascii.specs.Laying.{Laid}
 use Rattle.streams.proofs.CallSteps.{bits-say}
 use Rattle.links.specs.declared.looking.Kind.{Kind}
 use Rattle.links.specs.declared.looking.Kind.TheVariants as kind
 use Rattle.links.specs.declared.looking.Mode.TheVariants as mode
-use Rattle.links.specs.declared.looking.Way.{Way}
 use Rattle.links.specs.declared.looking.Way.TheVariants as way
 use Rattle.links.specs.Faults.{reason_of}
 use Rattle.links.specs.Looking.{kind_of, unseen_by, found_of, way_of, has_bits, unseen_long}
 use Rattle.links.specs.Paths.{longest_path}
-
--- ---- a path with zeros behind it
-
-pub ended-front : (o path new : List ℕ) (r v : ℕ) → length path ≤ 4095 → Laid o 0 path new r → take (length path) (set new 4095 v) ≡ path
-ended-front o path new r v p laid =
-    let e : r ≡ length path = omega (arith, laid.stop) in
-    let f : take (length path) new ≡ path = rw e at laid.front in
-    take-set-le (length path) new 4095 v p ∙ f
-
-pub ruleset ending-path = (ended-front, rules)
 
 -- ---- a mode
 

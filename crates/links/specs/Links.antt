@@ -1,5 +1,5 @@
 -- Links followed up to what they lead to in the end: which are followed, and how many.
-use Rattle.std.specs.Prelude.{ℕ, ◌≤◌, Bool, true, false, cond, ltb, ℤ, pos, negsuc}
+use Rattle.std.specs.Prelude.{ℕ, ◌≤◌, Bool, true, false, cond, ltb, ℤ, pos, Result, Ok, Err}
 use Rattle.links.specs.Faults.{reason_of}
 use Rattle.links.specs.Looking.{way_of}
 use Rattle.links.specs.declared.looking.Kind.{Kind}
@@ -33,9 +33,9 @@ turn_of kind own followed =
     (turn.Stop (way_of kind))
 
 -- The system tells how many bytes a link's text has, or fails.
-unfoldable pub size_of : (answer error : ℤ) → Next
-size_of (pos n) error = next.To n
-size_of (negsuc n) error = next.Failed (reason_of error)
+unfoldable pub size_of : Result ℕ ℤ → Next
+size_of (Ok n) = next.To n
+size_of (Err error) = next.Failed (reason_of error)
 
 unfoldable pub AtMost : ℕ → Next → Type 0
 AtMost most (next.To n) = n ≤ most

@@ -1,5 +1,5 @@
 -- What stands at a path, by the system's answer and the mode that it tells, and which way a file is saved there.
-use Rattle.std.specs.Prelude.{ℕ, zero, suc, Bool, true, false, cond, eqb, ℤ, pos, negsuc}
+use Rattle.std.specs.Prelude.{ℕ, zero, suc, Bool, false, cond, eqb, ℤ, pos, negsuc}
 use Rattle.std.specs.Int.Bits.{bit_and}
 use Rattle.links.specs.Faults.{reason_of}
 use Rattle.links.specs.Paths.{name_long}

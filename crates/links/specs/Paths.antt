@@ -15,6 +15,10 @@ path_room = 4096
 abbrev pub name_long : ℕ
 name_long = 36
 
+-- The error number of a path whose bytes are no text.
+abbrev pub no_text : ℕ
+no_text = 84
+
 -- ---- the folder
 
 abbrev pub slash : ℕ

@@ -1,6 +1,13 @@
-// What a call to the system comes to, and the error number that is told where it fails. The number is handed in, so that it is taken at once: a later call may change it.
+// What a call to the system comes to, and the error number that is told where it fails.
 ghost use Rattle.std.specs.Prelude.{◌≡◌};
 ghost use Rattle.links.specs.Faults.{reason_of, step_of, step_if, opened_of};
+
+use std::fs::File;
+use std::io;
+use streams::error_number;
+
+// The number of an input or output error.
+const INPUT_OUTPUT: i32 = 5;
 
 // A call did what was asked, or failed with this number.
 #[derive(Clone, Copy)]
@@ -9,10 +16,10 @@ pub enum Step {
     Failed(i32),
 }
 
-// A descriptor, or why there is none.
-#[derive(Clone, Copy)]
+// An open file, or why there is none.
+#[derive(Drop)]
 pub enum Opened {
-    At(i32),
+    At(File),
     Failed(i32),
 }
 
@@ -21,19 +28,19 @@ pub fn reason(error: i32) -> i32
     ensures { result ≡ reason_of error }
 {
     if error == 0 {
-        return libc::EIO;
+        return INPUT_OUTPUT;
     }
     error
 }
 
-// A call that answers below 0 has failed.
-pub fn step_by(answer: i32, error: i32) -> Step
-    ensures { result ≡ step_of answer error }
+// A call that answers an error has failed.
+pub fn step_by(answer: io::Result<()>) -> Step
+    ensures { result ≡ step_of answer }
 {
-    if answer < 0 {
-        return Step::Failed(reason(error));
+    match answer {
+        Ok(()) => Step::Done,
+        Err(e) => Step::Failed(reason(error_number(e))),
     }
-    Step::Done
 }
 
 pub fn step_if(done: bool, error: i32) -> Step
@@ -45,11 +52,11 @@ pub fn step_if(done: bool, error: i32) -> Step
     Step::Failed(reason(error))
 }
 
-pub fn opening(fd: i32, error: i32) -> Opened
-    ensures { result ≡ opened_of fd error }
+pub fn opening(answer: io::Result<File>) -> Opened
+    ensures { result ≡ opened_of answer }
 {
-    if fd < 0 {
-        return Opened::Failed(reason(error));
+    match answer {
+        Ok(file) => Opened::At(file),
+        Err(e) => Opened::Failed(reason(error_number(e))),
     }
-    Opened::At(fd)
 }

@@ -1,14 +1,18 @@
 // Links followed up to what they lead to in the end, as the system follows them.
-ghost use Rattle.std.specs.Prelude.{◌≡◌, ◌<◌, ◌≤◌, length};
+ghost use Rattle.std.specs.Prelude.{◌≡◌, ◌<◌, ◌≤◌, length, IfOk};
 ghost use Rattle.links.specs.Paths.{longest_path, path_room};
 ghost use Rattle.links.specs.Links.{is_link, turn_of, size_of, AtMost, most_links};
 
 use crate::faults::reason;
-use crate::looking::{Kind, Way, ended, look, way_by};
-use crate::paths::{Next, go_to, is_systems};
-use libc::PATH_MAX;
+use crate::looking::{Kind, Way, look, way_by};
+use crate::paths::{NAME_TOO_LONG, NO_TEXT, Next, PATH_ROOM, go_to, is_systems, text_of};
+use ascii::put_bytes;
+use std::rt::HostRuntime;
+use std::{fs, io};
 
 const MOST_LINKS: u64 = 40;
+
+const TOO_MANY_LINKS: i32 = 40;
 
 // The path is reached, and the file is saved there this way; or it is a link that is followed.
 #[derive(Clone, Copy)]
@@ -50,43 +54,71 @@ fn turn_by(kind: Kind, own: bool, followed: u64) -> Turn
     if followed < MOST_LINKS {
         return Turn::Follow;
     }
-    Turn::Stop(Way::Barred(libc::ELOOP))
+    Turn::Stop(Way::Barred(TOO_MANY_LINKS))
 }
 
-fn turn_at(path: &[u8], followed: u64) -> Turn
+fn turn_at(rt: &HostRuntime, path: &[u8], followed: u64) -> Turn
     ensures { result ≡ Turn.Follow → followed < most_links }
 {
-    let kind = look(path);
+    let kind = look(rt, path);
     let own = is_systems(path);
     turn_by(kind, own, followed)
 }
 
-fn size_by(got: isize, error: i32) -> Next
-    ensures { result ≡ size_of got error }
+fn size_by(read: Result<usize, i32>) -> Next
+    ensures { result ≡ size_of read }
 {
-    if got < 0 {
-        return Next::Failed(reason(error));
+    match read {
+        Ok(n) => Next::To(n),
+        Err(error) => Next::Failed(reason(error)),
     }
-    Next::To(got as usize)
 }
 
-fn read_link(link: &[u8], target: &mut [u8]) -> Next
+// The number of the failure to read a link: std gives none where the text is not UTF-8.
+fn link_error(e: io::Error) -> i32 {
+    match e.raw_os_error() {
+        Some(error) => error,
+        None => NO_TEXT,
+    }
+}
+
+// Lays the text that a link has over the front of `target`. What has no room there is longer than any path.
+fn lay_link(rt: &HostRuntime, link: &str, target: &mut [u8]) -> Result<usize, i32>
+    ensures { IfOk result (λ n. n ≤ length target.new) }
+{
+    match fs::read_link(rt, link) {
+        Ok(text) => lay_text(text.as_str().as_bytes(), target),
+        Err(e) => Err(link_error(e)),
+    }
+}
+
+fn lay_text(text: &[u8], target: &mut [u8]) -> Result<usize, i32>
+    ensures { IfOk result (λ n. n ≤ length target.new) }
+{
+    if target.len() < text.len() {
+        return Err(NAME_TOO_LONG);
+    }
+    Ok(put_bytes(target, 0, text))
+}
+
+fn read_link(rt: &HostRuntime, link: &[u8], target: &mut [u8]) -> Next
     requires { length link.now ≤ longest_path }
     ensures { AtMost (length target.new) result }
 {
-    let text = ended(link);
-    let got = libc::readlink(&text, target);
-    size_by(got, os::errno())
+    match text_of(link) {
+        Ok(text) => size_by(lay_link(rt, text, target)),
+        Err(error) => Next::Failed(error),
+    }
 }
 
 // Lays the path that a link leads to over the link's own. What the link's text has no room for is longer than any path.
-fn follow(place: &mut [u8], size: usize) -> Next
+fn follow(rt: &HostRuntime, place: &mut [u8], size: usize) -> Next
     requires { (size ≤ longest_path) × (length place.old ≡ path_room) }
     ensures { AtMost longest_path result × (length place.new ≡ path_room) }
 {
     let from = 0;
-    let mut target = [0u8; PATH_MAX];
-    let read = read_link(&place[from..size], &mut target);
+    let mut target = [0u8; PATH_ROOM];
+    let read = read_link(rt, &place[from..size], &mut target);
     match read {
         Next::Failed(error) => Next::Failed(error),
         Next::To(n) => go_to(place, size, &target[from..n]),
@@ -94,7 +126,7 @@ fn follow(place: &mut [u8], size: usize) -> Next
 }
 
 // Follows links from the path that is the first `size` bytes, and lays the path that is reached over it.
-pub fn find(place: &mut [u8], size: usize) -> Found
+pub fn find(rt: &HostRuntime, place: &mut [u8], size: usize) -> Found
     requires { (size ≤ longest_path) × (length place.old ≡ path_room) }
     ensures { (result.size ≤ longest_path) × (length place.new ≡ path_room) }
 {
@@ -102,11 +134,11 @@ pub fn find(place: &mut [u8], size: usize) -> Found
     let mut at = size;
     let mut followed: u64 = 0;
     loop {
-        let turn = turn_at(&place[from..at], followed);
+        let turn = turn_at(rt, &place[from..at], followed);
         if let Turn::Stop(way) = turn {
             return Found { size: at, way };
         }
-        let next = follow(place, at);
+        let next = follow(rt, place, at);
         match next {
             Next::Failed(error) => {
                 return Found {

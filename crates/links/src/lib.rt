@@ -4,7 +4,7 @@
 pub use faults::{Opened, Step, opening, reason, step_by, step_if};
 pub use following::{Found, find};
 pub use looking::{Mode, Way, has_permissions};
-pub use paths::folder_size;
+pub use paths::{PATH_ROOM, folder_size, text_of};
 
 mod faults;
 mod following;

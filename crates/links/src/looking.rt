@@ -1,14 +1,28 @@
 // What stands at a path, and which way a file is saved there.
-ghost use Rattle.std.specs.Prelude.{◌≡◌, false, ◌<◌, ◌≤◌, length, take};
-ghost use Rattle.libc.specs.Io.{Ended};
+ghost use Rattle.std.specs.Prelude.{◌≡◌, false, ◌<◌, length};
 ghost use Rattle.links.specs.Looking.{kind_of, found_of, way_of, has_bits, unseen_long};
 ghost use Rattle.links.specs.Paths.{longest_path};
 
 use crate::faults::reason;
-use libc::PATH_MAX;
-use libc::types::{stat, timespec};
+use crate::paths::{LAST, NAME_TOO_LONG, text_of};
+use std::fs;
+use std::os::unix::fs::MetadataExt;
+use std::rt::HostRuntime;
+use streams::error_number;
 
-const LAST: usize = PATH_MAX - 1;
+// The error numbers of a path at which nothing stands, and of a folder where a file was asked for.
+const NO_ENTRY: i32 = 2;
+
+const IS_FOLDER: i32 = 21;
+
+// The bits of a mode that tell what kind of file it is, and the three kinds that matter here.
+const KIND_BITS: u32 = 0o170000;
+
+const REGULAR: u32 = 0o100000;
+
+const FOLDER: u32 = 0o040000;
+
+const LINK: u32 = 0o120000;
 
 // The bits of a mode that tell who may read, write and run a file. Those that let it run as its owner are not among them: the new file may have another.
 const PERMISSIONS: u32 = 0o777;
@@ -39,71 +53,46 @@ pub enum Way {
     Barred(i32),
 }
 
-// The system's answer to what stands at a path, and the mode of what does.
+// The system's answer to what stands at a path, 0 or below it, and the mode of what does or the number of the failure.
 #[derive(Clone, Copy)]
 struct Asked {
     answer: i32,
     mode: u32,
+    error: i32,
 }
 
-// The path with zeros behind it, as the system reads one.
-pub fn ended(path: &[u8]) -> [u8; PATH_MAX]
-    requires { length path.now ≤ longest_path }
-    ensures { (take (length path.now) result ≡ path.now) × Ended result }
-{
-    let mut text = [0u8; PATH_MAX];
-    ascii::put_bytes(&mut text, 0, path);
-    text[LAST] = 0;
-    text
-}
-
-// Room for what the system knows of a file.
-fn nothing_known() -> stat {
-    let never = timespec {
-        tv_sec: 0,
-        tv_nsec: 0,
-    };
-    stat {
-        st_dev: 0,
-        st_ino: 0,
-        st_nlink: 0,
-        st_mode: 0,
-        st_uid: 0,
-        st_gid: 0,
-        __pad: 0,
-        st_rdev: 0,
-        st_size: 0,
-        st_blksize: 0,
-        st_blocks: 0,
-        st_atim: never,
-        st_mtim: never,
-        st_ctim: never,
-        __unused: [0i64; 3],
+// What is known where the system does not say.
+fn nothing_known(error: i32) -> Asked {
+    Asked {
+        answer: -1,
+        mode: 0,
+        error,
     }
 }
 
 // Asks what stands at a path. A link is not followed: it is something else than the file that it names.
-fn ask(path: &[u8; PATH_MAX], mut found: stat) -> Asked
-    requires { Ended path.now }
-{
-    let answer = libc::lstat(path, &mut found);
-    Asked {
-        answer,
-        mode: found.st_mode,
+fn ask(rt: &HostRuntime, path: &str) -> Asked {
+    match fs::symlink_metadata(rt, path) {
+        Ok(found) => Asked {
+            answer: 0,
+            mode: found.mode(),
+            error: 0,
+        },
+        Err(e) => nothing_known(error_number(e)),
     }
 }
 
 fn kind_by(mode: u32) -> Kind
     ensures { result ≡ kind_of mode }
 {
-    let form = mode & libc::S_IFMT;
-    if form == libc::S_IFREG {
+    let form = mode & KIND_BITS;
+    if form == REGULAR {
         return Kind::Regular(mode & PERMISSIONS);
     }
-    if form == libc::S_IFDIR {
+    if form == FOLDER {
         return Kind::Folder;
     }
-    if form == libc::S_IFLNK {
+    if form == LINK {
         return Kind::Link;
     }
     Kind::Other
@@ -115,21 +104,25 @@ fn kind_found(asked: Asked, error: i32) -> Kind
     if asked.answer == 0 {
         return kind_by(asked.mode);
     }
-    if error == libc::ENOENT {
+    if error == NO_ENTRY {
         return Kind::Missing;
     }
     Kind::Unseen(reason(error))
 }
 
-pub fn look(path: &[u8]) -> Kind
+pub fn look(rt: &HostRuntime, path: &[u8]) -> Kind
     ensures { longest_path < length path.now → result ≡ unseen_long }
 {
     if LAST < path.len() {
-        return Kind::Unseen(libc::ENAMETOOLONG);
+        return Kind::Unseen(NAME_TOO_LONG);
     }
-    let text = ended(path);
-    let asked = ask(&text, nothing_known());
-    kind_found(asked, os::errno())
+    match text_of(path) {
+        Ok(text) => {
+            let asked = ask(rt, text);
+            kind_found(asked, asked.error)
+        }
+        Err(error) => Kind::Unseen(error),
+    }
 }
 
 // Which way a file is saved where this stands.
@@ -139,7 +132,7 @@ pub fn way_by(kind: Kind) -> Way
     match kind {
         Kind::Missing => Way::Beside(Mode::AsMade),
         Kind::Regular(bits) => Way::Beside(Mode::Kept(bits)),
-        Kind::Folder => Way::Barred(libc::EISDIR),
+        Kind::Folder => Way::Barred(IS_FOLDER),
         Kind::Link => Way::InPlace,
         Kind::Other => Way::InPlace,
         Kind::Unseen(error) => Way::Barred(error),
@@ -160,8 +153,8 @@ fn has_bits(kind: Kind, bits: u32) -> bool
 }
 
 // Whether a regular file with these permissions stands at the path.
-pub fn has_permissions(path: &[u8], bits: u32) -> bool
+pub fn has_permissions(rt: &HostRuntime, path: &[u8], bits: u32) -> bool
     ensures { longest_path < length path.now → result ≡ false }
 {
-    has_bits(look(path), bits)
+    has_bits(look(rt, path), bits)
 }

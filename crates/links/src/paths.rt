@@ -1,19 +1,37 @@
 // Paths as bytes: the folder that a path names a file in, and where a link leads.
-ghost use Rattle.std.specs.Prelude.{◌≡◌, ◌≤◌, length};
-ghost use Rattle.links.specs.Paths.{folder_size, kept_size, is_systems, longest_path, path_room, Gone};
+ghost use Rattle.std.specs.Prelude.{◌≡◌, ◌≤◌, length, MatchResult, pos};
+ghost use Rattle.links.specs.Paths.{folder_size, kept_size, is_systems, longest_path, path_room, no_text, Gone};
 
 use ascii::{begins, put_bytes};
-use libc::PATH_MAX;
+use std::str;
 
 const SLASH: u8 = b'/';
 
-const LAST: usize = PATH_MAX - 1;
+// As many bytes as a path of the system has, and one more.
+pub const PATH_ROOM: usize = 4096;
+
+pub const LAST: usize = PATH_ROOM - 1;
+
+pub const NAME_TOO_LONG: i32 = 36;
+
+// The error number of bytes that are no text. std names a file by text alone, which is UTF-8.
+pub const NO_TEXT: i32 = 84;
 
 // How many bytes there are to go on with, or why there are none.
 #[derive(Clone, Copy)]
 pub enum Next {
     To(usize),
     Failed(i32),
+}
+
+// The path as std takes one: its own bytes, where they are text.
+pub fn text_of(path: &[u8]) -> Result<&str, i32>
+    ensures { MatchResult result (λ text. text.now ≡ path.now) (λ error. error ≡ pos no_text) }
+{
+    match str::from_utf8(path) {
+        Ok(text) => Ok(text),
+        Err(_) => Err(NO_TEXT),
+    }
 }
 
 // How many bytes of the path name its folder: those up to the last slash.
@@ -49,7 +67,7 @@ pub fn go_to(place: &mut [u8], size: usize, target: &[u8]) -> Next
     let from = 0;
     let kept = kept_size(&place[from..size], target);
     if LAST - kept < target.len() {
-        return Next::Failed(libc::ENAMETOOLONG);
+        return Next::Failed(NAME_TOO_LONG);
     }
     Next::To(put_bytes(place, kept, target))
 }

@@ -2,11 +2,15 @@
 #![tactic(auto)]
 
 use disk::{FileRead, Saved};
+use std::rt::{Env, HostRuntime};
 use streams::Ending;
 
-const INPUT: i32 = 0;
-
 const ERRORS: i32 = 2;
+
+// The error numbers of a wrong usage, and of what is too large.
+const INVALID: i32 = 22;
+
+const TOO_LARGE: i32 = 27;
 
 // The most that is saved, and one byte more.
 const ROOM: usize = 131073;
@@ -41,53 +45,62 @@ fn tell_saved(path: &[u8], s: Saved) -> Ending {
 
 // ---- what is saved
 
-fn save_part(path: &[u8], bytes: &[u8], n: usize) -> Ending {
+fn save_part(rt: &HostRuntime, path: &[u8], bytes: &[u8], n: usize) -> Ending {
     if bytes.len() < n {
         return Ending::Failed;
     }
     let from = 0;
-    tell_saved(path, disk::save(path, &bytes[from..n]))
+    tell_saved(path, disk::save(rt, path, &bytes[from..n]))
 }
 
-fn save_read(path: &[u8], bytes: &[u8], read: FileRead) -> Ending {
+fn save_read(rt: &HostRuntime, path: &[u8], bytes: &[u8], read: FileRead) -> Ending {
     if read.error != 0 {
         return tell(b"the input", b": can't be read: ", read.error);
     }
     if ROOM <= read.count {
-        return tell(b"the input", b": too long: ", libc::EFBIG);
+        return tell(b"the input", b": too long: ", TOO_LARGE);
     }
-    save_part(path, bytes, read.count)
+    save_part(rt, path, bytes, read.count)
 }
 
 // Reads standard input, or the file that the first n bytes name.
-fn read_from(from: &[u8], n: usize, buf: &mut [u8]) -> FileRead {
+fn read_from(rt: &HostRuntime, from: &[u8], n: usize, buf: &mut [u8]) -> FileRead {
+    let mut input = rt.stdin();
     if n == 0 {
-        return disk::read_input(INPUT, buf);
+        return disk::read_input(rt, &mut input, buf);
     }
     if from.len() < n {
-        return disk::read_input(INPUT, buf);
+        return disk::read_input(rt, &mut input, buf);
     }
     let first = 0;
-    disk::read_file(&from[first..n], buf)
+    disk::read_file(rt, &from[first..n], buf)
 }
 
-fn run(path: &[u8], n: usize, from: &[u8], k: usize, bytes: &mut [u8]) -> Ending {
+fn run(rt: &HostRuntime, path: &[u8], n: usize, from: &[u8], k: usize, bytes: &mut [u8]) -> Ending {
     if n == 0 {
-        return tell(b"usage: save_input PATH [FROM]", b": ", libc::EINVAL);
+        return tell(b"usage: save_input PATH [FROM]", b": ", INVALID);
     }
     if path.len() < n {
         return Ending::Failed;
     }
     let first = 0;
-    let read = read_from(from, k, bytes);
-    save_read(&path[first..n], bytes, read)
+    let read = read_from(rt, from, k, bytes);
+    save_read(rt, &path[first..n], bytes, read)
 }
 
-fn main() {
+// How many bytes the argument has: none where it is not there.
+fn argument(rt: &HostRuntime, i: usize, arg: &mut [u8]) -> usize {
+    match rt.arg(i, arg) {
+        Ok(n) => n,
+        Err(_) => 0,
+    }
+}
+
+fn main(rt: HostRuntime) {
     let mut path = [0u8; 8192];
     let mut from = [0u8; 8192];
     let mut bytes = [0u8; ROOM];
-    let n = os::arg(1, &mut path);
-    let k = os::arg(2, &mut from);
-    streams::tell_ending(run(&path, n, &from, k, &mut bytes));
+    let n = argument(&rt, 1, &mut path);
+    let k = argument(&rt, 2, &mut from);
+    streams::tell_ending(run(&rt, &path, n, &from, k, &mut bytes));
 }

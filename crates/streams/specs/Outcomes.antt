@@ -1,5 +1,8 @@
--- What one call to read or write comes to, by its answer and the error number that it leaves.
-use Rattle.std.specs.Prelude.{ℕ, zero, suc, ◌≤◌, Bool, true, false, cond, eqb, ℤ, pos, negsuc}
+-- What one call to read or write comes to, by its answer and the error number that a failure has.
+use Rattle.std.specs.Prelude.{ℕ, zero, suc, ◌≤◌, Bool, true, false, cond, eqb, ℤ, pos, negsuc, Option, Result, Ok, Err}
+use Rattle.std.specs.declared.option.Option.TheVariants as option
+use Rattle.std.specs.IoError.{raw_os_error}
+use Rattle.std.specs.declared.io.Error.{Error}
 use Rattle.streams.specs.declared.calls.Outcome.{Outcome}
 use Rattle.streams.specs.declared.calls.Outcome.TheVariants as outcome
 use Rattle.streams.specs.declared.reading.Got.{Got}
@@ -12,16 +15,28 @@ interrupted = 4
 abbrev pub not_ready : ℕ
 not_ready = 11
 
--- A call that failed is made again at once, or later, or has failed for good.
-unfoldable pub failure_of : ℤ → Outcome
-failure_of (pos n) = cond (eqb n interrupted) outcome.Again (cond (eqb n not_ready) outcome.Wait outcome.Failed)
-failure_of (negsuc n) = outcome.Failed
+-- The system's number of an error, or 0 where it is none of the system's.
+abbrev pub number_by : Option ℤ → ℤ
+number_by option.None = pos 0
+number_by (option.Some error) = error
 
--- An answer above 0 is how many bytes were moved, and 0 is none. One below 0 is a failure.
-unfoldable pub outcome_of : (answer error : ℤ) → Outcome
-outcome_of (pos zero) error = outcome.Nothing
-outcome_of (pos (suc n)) error = outcome.Took (suc n)
-outcome_of (negsuc n) error = failure_of error
+abbrev pub number_of : Error → ℤ
+number_of e = number_by (raw_os_error e)
+
+-- A call that failed is made again at once, or later, or has failed for good, with its number.
+unfoldable pub failure_of : ℤ → Outcome
+failure_of (pos n) = cond (eqb n interrupted) outcome.Again (cond (eqb n not_ready) outcome.Wait (outcome.Failed (pos n)))
+failure_of (negsuc n) = outcome.Failed (negsuc n)
+
+-- So many bytes were moved, or none.
+unfoldable pub moved_of : ℕ → Outcome
+moved_of zero = outcome.Nothing
+moved_of (suc n) = outcome.Took (suc n)
+
+-- An answer is how many bytes were moved, or a failure.
+unfoldable pub outcome_of : Result ℕ Error → Outcome
+outcome_of (Ok n) = moved_of n
+outcome_of (Err e) = failure_of (number_of e)
 
 -- Whether the call is made again.
 abbrev pub retried : Outcome → Bool
@@ -29,15 +44,15 @@ retried (outcome.Took n) = false
 retried outcome.Nothing = false
 retried outcome.Again = true
 retried outcome.Wait = true
-retried outcome.Failed = false
+retried (outcome.Failed error) = false
 
 -- What a read that is not made again gave: no bytes are the input's end.
 abbrev pub got_of : Outcome → Got
 got_of (outcome.Took n) = got.Bytes n
 got_of outcome.Nothing = got.End
-got_of outcome.Again = got.Failed
-got_of outcome.Wait = got.Failed
-got_of outcome.Failed = got.Failed
+got_of outcome.Again = got.Failed (pos interrupted)
+got_of outcome.Wait = got.Failed (pos not_ready)
+got_of (outcome.Failed error) = got.Failed error
 
 -- How many bytes a write that is not made again took: where it took none, it has failed.
 abbrev pub taken_of : Outcome → ℕ
@@ -45,7 +60,15 @@ taken_of (outcome.Took n) = n
 taken_of outcome.Nothing = 0
 taken_of outcome.Again = 0
 taken_of outcome.Wait = 0
-taken_of outcome.Failed = 0
+taken_of (outcome.Failed error) = 0
+
+-- The number of the failure of such a write, which one that takes none has not.
+abbrev pub refusal_of : Outcome → ℤ
+refusal_of (outcome.Took n) = pos 0
+refusal_of outcome.Nothing = pos 0
+refusal_of outcome.Again = pos interrupted
+refusal_of outcome.Wait = pos not_ready
+refusal_of (outcome.Failed error) = error
 
 -- Of most bytes handed in, at least one and no more than all.
 abbrev pub Some : ℕ → ℕ → Type 0
@@ -56,9 +79,9 @@ Within most (outcome.Took n) = Some most n
 Within most outcome.Nothing = Unit {0}
 Within most outcome.Again = Unit {0}
 Within most outcome.Wait = Unit {0}
-Within most outcome.Failed = Unit {0}
+Within most (outcome.Failed error) = Unit {0}
 
 unfoldable pub Gives : ℕ → Got → Type 0
 Gives most (got.Bytes n) = Some most n
 Gives most got.End = Unit {0}
-Gives most got.Failed = Unit {0}
+Gives most (got.Failed error) = Unit {0}

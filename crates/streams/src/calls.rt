@@ -1,13 +1,20 @@
-// What one call to read or write came to, by its answer and the error number that it left.
+// What one call to read or write came to, by its answer and the error number that a failure has.
 ghost use Rattle.std.specs.Prelude.{◌≡◌};
-ghost use Rattle.streams.specs.Outcomes.{failure_of, outcome_of, retried};
+ghost use Rattle.streams.specs.Outcomes.{number_of, failure_of, moved_of, outcome_of, retried};
 
-use libc::types::timespec;
+use std::rt::Clock;
+use std::thread;
+use std::time::Duration;
 
 // More calls than any wait lasts for, at one in a millisecond.
 pub const MOST_TRIES: u64 = 1000000000000000;
 
-const MILLISECOND: i64 = 1000000;
+const MILLISECOND: u64 = 1;
+
+// The system's numbers of a call that a signal interrupted, and of one on a descriptor that is not ready.
+pub const INTERRUPTED: i32 = 4;
+
+pub const NOT_READY: i32 = 11;
 
 #[derive(Clone, Copy)]
 pub enum Outcome {
@@ -15,58 +22,67 @@ pub enum Outcome {
     Nothing,
     Again,
     Wait,
-    Failed,
+    Failed(i32),
+}
+
+// The system's number of an error, or 0 where it is none of the system's.
+pub fn error_number(e: std::io::Error) -> i32
+    ensures { result ≡ number_of e }
+{
+    match e.raw_os_error() {
+        Some(error) => error,
+        None => 0,
+    }
 }
 
 // A call that failed: "interrupted" is no failure, nor is "not ready".
 fn failure(error: i32) -> Outcome
     ensures { result ≡ failure_of error }
 {
-    if error == libc::EINTR {
+    if error == INTERRUPTED {
         return Outcome::Again;
     }
-    if error == libc::EAGAIN {
+    if error == NOT_READY {
         return Outcome::Wait;
     }
-    Outcome::Failed
+    Outcome::Failed(error)
 }
 
-pub fn came_to(got: isize, error: i32) -> Outcome
-    ensures { result ≡ outcome_of got error }
+// A call that moved so many bytes.
+fn moved(n: usize) -> Outcome
+    ensures { result ≡ moved_of n }
 {
-    if 0 < got {
-        return Outcome::Took(got as usize);
-    }
-    if got == 0 {
+    if n == 0 {
         return Outcome::Nothing;
     }
-    failure(error)
+    Outcome::Took(n)
 }
 
-fn pause() {
-    let asked = timespec {
-        tv_sec: 0,
-        tv_nsec: MILLISECOND,
-    };
-    let mut left = timespec {
-        tv_sec: 0,
-        tv_nsec: 0,
-    };
-    libc::nanosleep(&asked, &mut left);
+pub fn came_to(answer: std::io::Result<usize>) -> Outcome
+    ensures { result ≡ outcome_of answer }
+{
+    match answer {
+        Ok(n) => moved(n),
+        Err(e) => failure(error_number(e)),
+    }
+}
+
+fn pause(rt: &impl Clock) {
+    thread::sleep(rt, Duration::from_millis(MILLISECOND));
 }
 
 // Whether the call is to be made again: at once, or after a millisecond.
-pub fn retry(o: Outcome) -> bool
+pub fn retry(rt: &impl Clock, o: Outcome) -> bool
     ensures { result ≡ retried o }
 {
     match o {
         Outcome::Again => true,
         Outcome::Wait => {
-            pause();
+            pause(rt);
             true
         }
         Outcome::Took(_) => false,
         Outcome::Nothing => false,
-        Outcome::Failed => false,
+        Outcome::Failed(_) => false,
     }
 }

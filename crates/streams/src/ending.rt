@@ -2,8 +2,6 @@
 ghost use Rattle.std.specs.Prelude.{◌≡◌, ◌≤◌};
 ghost use Rattle.streams.specs.Endings.{status_of};
 
-use crate::write_whole;
-
 // Where a program tells its status, to the script that runs it.
 const STATUS: i32 = 3;
 
@@ -27,5 +25,5 @@ pub fn status_of(e: Ending) -> u8
 
 // Tells how the program ended, as one digit. Nothing is to be done where nobody listens.
 pub fn tell_ending(e: Ending) {
-    write_whole(STATUS, &[b'0' + status_of(e)]);
+    io::write_all(STATUS, &[b'0' + status_of(e)]);
 }

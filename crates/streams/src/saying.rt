@@ -2,32 +2,67 @@
 ghost use Rattle.std.specs.Prelude.{◌≡◌, false, ◌<◌, length};
 
 use crate::write_whole;
+use std::io::{Cursor, Error, Write};
+use std::rt::HostRuntime;
+use std::str;
+
+// Room for the words of any error of the system, and for its number.
+const WORDS_ROOM: usize = 256;
 
 // Writes bytes to standard error. Nothing is to be done where they are not taken.
-pub fn say(what: &[u8]) {
-    write_whole(libc::STDERR_FILENO, what);
+pub fn say(rt: &HostRuntime, what: &[u8]) {
+    let mut errors = rt.stderr();
+    write_whole(rt, &mut errors, what);
 }
 
 // The first n bytes of a line to standard error.
-pub fn say_first(text: &[u8], n: usize) {
+pub fn say_first(rt: &HostRuntime, text: &[u8], n: usize) {
     if text.len() < n {
         return;
     }
     let from = 0;
-    say(&text[from..n]);
+    say(rt, &text[from..n]);
+}
+
+// The system's own words for an error, among the first n bytes: std puts the number behind them, in brackets.
+fn words(text: &[u8], n: usize) -> &[u8] {
+    if text.len() < n {
+        return b"";
+    }
+    let Ok(told) = str::from_utf8(&text[..n]) else {
+        return b"";
+    };
+    match told.split_once(" (os error ") {
+        Some((said, _)) => said.as_bytes(),
+        None => told.as_bytes(),
+    }
+}
+
+// A line on standard error: what failed, a colon and the words of its number.
+fn say_failed(rt: &HostRuntime, what: &[u8], error: i32) {
+    let mut text = [0u8; WORDS_ROOM];
+    let mut at = Cursor::new(text.as_mut_slice());
+    let _ = write!(at, "{}", Error::from_raw_os_error(error));
+    let n = at.position() as usize;
+    say(rt, what);
+    say(rt, b": ");
+    say(rt, words(&text, n));
+    say(rt, b"\n");
 }
 
 // The first n bytes of what was laid out, to standard output; whether all of them were written. Where they were not, standard error says why.
-pub fn print(out: &[u8], n: usize) -> bool
+pub fn print(rt: &HostRuntime, out: &[u8], n: usize) -> bool
     ensures { length out.now < n → result ≡ false }
 {
     if out.len() < n {
         return false;
     }
     let from = 0;
-    if write_whole(libc::STDOUT_FILENO, &out[from..n]) {
+    let mut output = rt.stdout();
+    let written = write_whole(rt, &mut output, &out[from..n]);
+    if written.whole {
         return true;
     }
-    os::fail(b"standard output: can't be written");
+    say_failed(rt, b"standard output: can't be written", written.error);
     false
 }

@@ -1,8 +1,0 @@
--- The step was done, or failed.
--- Assumes nothing.
-use Rattle.disk.proofs.SaveSteps.{failing}
-use Rattle.disk.proofs.failures.safe_by.Statement.{statement}
-use Rattle.disk.proofs.failures.safe_by.Tie as tie
-
-pub safe-by-spec : {M : Type 1} → statement M
-safe-by-spec = tie.close (tie.spec (λ c. search failing) (λ c. search failing) (λ c. search failing) (λ c. search failing))
