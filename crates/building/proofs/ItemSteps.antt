@@ -13,7 +13,6 @@ use Rattle.page.specs.declared.Item.{Item}
 use Rattle.ascii.specs.Laying.{Laid}
 use Rattle.ascii.proofs.LayLaws.{laid-join}
 use Rattle.contents.specs.Limits.{item_size, most_items, most_actions, deepest}
-use Rattle.contents.specs.Bytes.{part}
 use Rattle.score.specs.Encode.{item_bytes}
 use Rattle.extended.specs.declared.Folded.{Folded}
 use Rattle.extended.specs.Inner.{SmallFolded}
