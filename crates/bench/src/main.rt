@@ -2,9 +2,14 @@
 // so a run of a call, less a run of what it starts with, has the call's own instructions.
 #![tactic(auto)]
 
+ghost use Rattle.std.specs.Prelude.{◌≤◌, length};
+
 use check::same;
 use sequencer::{Report, Sending};
 use session::layout::{MEMORY_SIZE, ROOM_SIZE};
+use std::fs::File;
+use std::os::fd::AsRawFd;
+use std::rt::{Env, HostRuntime};
 use text::Transcript;
 use writer::TEXT_ROOM;
 
@@ -122,9 +127,9 @@ fn run_text(word: &[u8], file: &[u8]) -> Told {
 }
 
 // The extended score with the largest result: read, unfolded, and, for another word, the unfolded file checked.
-fn run_unfolding(word: &[u8]) -> Told {
+fn run_unfolding(rt: &HostRuntime, word: &[u8]) -> Told {
     let mut extended = [0u8; 65536];
-    let size = io::read_full(os::open_read(b"folded.bin"), &mut extended);
+    let size = read_file(rt, "folded.bin", &mut extended);
     if same(word, b"seen") {
         return Told {
             number: 0,
@@ -164,7 +169,7 @@ fn unfolds(word: &[u8]) -> bool {
     same(word, b"made")
 }
 
-fn run(word: &[u8], file: &[u8], mem: &mut [u64], room: &mut [u64]) -> Told {
+fn run(rt: &HostRuntime, word: &[u8], file: &[u8], mem: &mut [u64], room: &mut [u64]) -> Told {
     if same(word, b"none") {
         return Told {
             number: 0,
@@ -184,7 +189,7 @@ fn run(word: &[u8], file: &[u8], mem: &mut [u64], room: &mut [u64]) -> Told {
         return run_text(word, file);
     }
     if unfolds(word) {
-        return run_unfolding(word);
+        return run_unfolding(rt, word);
     }
     let opened = open_score(mem, file);
     run_session(word, mem, room, opened)
@@ -198,12 +203,22 @@ fn print(told: Told) {
     io::write_all(OUT, b"\n");
 }
 
-fn main() {
+// The bytes of a file, of which there are none where it can't be opened.
+fn read_file(rt: &HostRuntime, name: &str, buf: &mut [u8]) -> usize
+    ensures { result ≤ length buf.new }
+{
+    match File::open(rt, name) {
+        Ok(file) => io::read_full(file.as_raw_fd(), buf),
+        Err(_) => 0,
+    }
+}
+
+fn main(rt: HostRuntime) {
     let mut word = [0u8; 4];
     let mut file = [0u8; 65536];
     let mut mem = [0u64; MEMORY_SIZE];
     let mut room = [0u64; ROOM_SIZE];
-    os::arg(1, &mut word);
-    let size = io::read_full(os::open_read(b"largest.bin"), &mut file);
-    print(run(&word, &file[..size], &mut mem, &mut room));
+    let _ = rt.arg(1, &mut word);
+    let size = read_file(&rt, "largest.bin", &mut file);
+    print(run(&rt, &word, &file[..size], &mut mem, &mut room));
 }

@@ -1,4 +1,4 @@
-// A score played by commands from a descriptor, with what the electronics are sent on standard output. It moves bytes between the system and the proved libraries, and decides nothing about music.
+// A score played by commands that are read, with what the electronics are sent on standard output. It moves bytes between the system and the proved libraries, and decides nothing about music.
 #![tactic(auto)]
 
 ghost use Rattle.std.specs.Prelude.{◌≡◌, ◌≤◌, length};
@@ -6,6 +6,8 @@ ghost use Rattle.playing.specs.Inner.{Asked, output_room};
 ghost use Rattle.performance.specs.Refused.{ending_after};
 
 use reading::{Run, read_lines};
+use std::io::Read;
+use std::rt::HostRuntime;
 use streams::Ending;
 use telling::after_line;
 
@@ -23,6 +25,7 @@ fn ending_after(refused: bool) -> Ending
 
 // The input's end: the line that is left, if any is, and the end. How the run has come out.
 fn finish(
+    rt: &HostRuntime,
     file: &[u8],
     score: &[u8],
     first: &[u8],
@@ -37,27 +40,28 @@ fn finish(
         × Asked file.now s.progress.opened out.old }
 {
     let p = s.progress;
-    telling::say_empty(first, p.lines, p.have);
+    telling::say_empty(rt, first, p.lines, p.have);
     let n = chunks::last_line(file, mem, room, line, p, out);
-    if !streams::print(out, n) {
+    if !streams::print(rt, out, n) {
         return Ending::Failed;
     }
-    let refused = after_line(file, score, first, out, n, s.refused);
+    let refused = after_line(rt, file, score, first, out, n, s.refused);
     let n = playing::end_line(mem, out);
-    if !streams::print(out, n) {
+    if !streams::print(rt, out, n) {
         return Ending::Failed;
     }
     ending_after(refused)
 }
 
-// Plays the score's bytes by the commands that come from the descriptor `input`, with this grace. People are told of a refused score as `score`, of a refused tempo as `first`, of a refused grace as GRACE, and of an input that can't be read as `commands`.
-pub fn perform(
+// Plays the score's bytes by the commands that come from `input`, with this grace. People are told of a refused score as `score`, of a refused tempo as `first`, of a refused grace as GRACE, and of an input that can't be read as `commands`.
+pub fn perform<R: Read>(
+    rt: &HostRuntime,
     file: &[u8],
     score: &[u8],
     first: &[u8],
     commands: &[u8],
     grace: u64,
-    input: i32,
+    input: &mut R,
     mem: &mut [u64],
     room: &mut [u64],
     out: &mut [u8],
@@ -66,10 +70,10 @@ pub fn perform(
 {
     let mut line = [0u8; 24];
     let s = read_lines(
-        file, score, first, commands, grace, input, mem, room, &mut line, out,
+        rt, file, score, first, commands, grace, input, mem, room, &mut line, out,
     );
     if s.failed {
         return Ending::Failed;
     }
-    finish(file, score, first, mem, room, &line, s, out)
+    finish(rt, file, score, first, mem, room, &line, s, out)
 }

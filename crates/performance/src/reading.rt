@@ -7,6 +7,8 @@ ghost use Rattle.chunks.specs.Inner.{reading_of, Going, WentOn};
 ghost use Rattle.performance.specs.Refused.{refused_after};
 
 use chunks::{Progress, Step};
+use std::io::Read;
+use std::rt::HostRuntime;
 use streams::Got;
 use telling::{after_line, say_unread};
 
@@ -31,6 +33,7 @@ struct Turn {
 
 // Reads on in the chunk, and prints what the line that ended has laid out.
 fn take_line(
+    rt: &HostRuntime,
     file: &[u8],
     score: &[u8],
     first: &[u8],
@@ -51,14 +54,14 @@ fn take_line(
         ≡ refused_after file.now (reading_of mem.old room.old line.old p) (drop at chunk.now) refused) }
 {
     let step = chunks::go_on(file, mem, room, chunk, at, line, p, out);
-    if !streams::print(out, step.count) {
+    if !streams::print(rt, out, step.count) {
         return Turn {
             step,
             refused,
             failed: true,
         };
     }
-    let refused = after_line(file, score, first, out, step.count, refused);
+    let refused = after_line(rt, file, score, first, out, step.count, refused);
     Turn {
         step,
         refused,
@@ -68,6 +71,7 @@ fn take_line(
 
 // The lines that end in a chunk of the input are carried out, and the start of the next is kept.
 fn take_chunk(
+    rt: &HostRuntime,
     file: &[u8],
     score: &[u8],
     first: &[u8],
@@ -92,7 +96,7 @@ fn take_chunk(
     let mut refused = s.refused;
     while at < chunk.len() {
         let turn = take_line(
-            file, score, first, mem, room, chunk, at, line, p, refused, out,
+            rt, file, score, first, mem, room, chunk, at, line, p, refused, out,
         );
         let step = turn.step;
         p = step.progress;
@@ -115,6 +119,7 @@ fn take_chunk(
 
 // The first n bytes of a chunk. More than it has are not there to be read.
 fn take_part(
+    rt: &HostRuntime,
     file: &[u8],
     score: &[u8],
     first: &[u8],
@@ -139,17 +144,17 @@ fn take_part(
     if chunk.len() < n {
         return s;
     }
-    take_chunk(file, score, first, mem, room, &chunk[..n], line, s, out)
+    take_chunk(rt, file, score, first, mem, room, &chunk[..n], line, s, out)
 }
 
-// The run at the end of its input, or where a read failed with this error number.
-fn ended(commands: &[u8], got: Got, error: i32, s: Run) -> Run
+// The run at the end of its input, or where a read failed.
+fn ended(rt: &HostRuntime, commands: &[u8], got: Got, s: Run) -> Run
     ensures { result.progress ≡ s.progress }
 {
-    let Got::Failed = got else {
+    let Got::Failed(error) = got else {
         return s;
     };
-    say_unread(commands, error);
+    say_unread(rt, commands, error);
     let progress = s.progress;
     Run {
         progress,
@@ -159,13 +164,14 @@ fn ended(commands: &[u8], got: Got, error: i32, s: Run) -> Run
 }
 
 // The lines that end before the input does, and the start of what is left.
-pub fn read_lines(
+pub fn read_lines<R: Read>(
+    rt: &HostRuntime,
     file: &[u8],
     score: &[u8],
     first: &[u8],
     commands: &[u8],
     grace: u64,
-    input: i32,
+    input: &mut R,
     mem: &mut [u64],
     room: &mut [u64],
     line: &mut [u8],
@@ -190,12 +196,11 @@ pub fn read_lines(
     };
     let mut reads: u64 = 0;
     while reads < MOST_READS {
-        let got = streams::read_some(input, &mut chunk);
-        let error = os::errno();
+        let got = streams::read_some(rt, input, &mut chunk);
         let Got::Bytes(n) = got else {
-            return ended(commands, got, error, s);
+            return ended(rt, commands, got, s);
         };
-        s = take_part(file, score, first, mem, room, &chunk, n, line, s, out);
+        s = take_part(rt, file, score, first, mem, room, &chunk, n, line, s, out);
         if s.failed {
             return s;
         }

@@ -3,6 +3,7 @@
 
 use playing::OUTPUT_ROOM;
 use session::layout::{MEMORY_SIZE, ROOM_SIZE};
+use std::rt::HostRuntime;
 use streams::Ending;
 
 // More than any score has, so that a longer file is refused for its length.
@@ -11,40 +12,45 @@ const FILE_ROOM: usize = 65536;
 // "`play` opens with grace 0."
 const NO_GRACE: u64 = 0;
 
+// The error number of a file that is missing.
+const NO_ENTRY: i32 = 2;
+
 // Room for the line of a score file that can't be read.
 const LINE_ROOM: usize = 64;
 
 // A score file that can't be read is played as an empty one, and people are told why. Answers whether that is a failure: a missing one is none.
-fn tell_unread(error: i32) -> bool {
+fn tell_unread(rt: &HostRuntime, error: i32) -> bool {
     if error == 0 {
         return false;
     }
-    if error == libc::ENOENT {
-        streams::say(b"score.bin: missing, read as an empty file\n");
+    if error == NO_ENTRY {
+        streams::say(rt, b"score.bin: missing, read as an empty file\n");
         return false;
     }
     let mut text = [0u8; LINE_ROOM];
     let n = reasons::unread_line(&mut text, b"score.bin", error);
-    streams::say_first(&text, n);
+    streams::say_first(rt, &text, n);
     true
 }
 
-fn main() {
+fn main(rt: HostRuntime) {
     let mut file = [0u8; FILE_ROOM];
     let mut mem = [0u64; MEMORY_SIZE];
     let mut room = [0u64; ROOM_SIZE];
     let mut out = [0u8; OUTPUT_ROOM];
     let from = 0;
-    let read = disk::read_file(b"score.bin", &mut file);
+    let read = disk::read_file(&rt, b"score.bin", &mut file);
     let size = read.count;
-    let failed = tell_unread(read.error);
+    let mut input = rt.stdin();
+    let failed = tell_unread(&rt, read.error);
     let ending = performance::perform(
+        &rt,
         &file[from..size],
         b"score.bin",
         b"line 1",
         b"standard input",
         NO_GRACE,
-        libc::STDIN_FILENO,
+        &mut input,
         &mut mem,
         &mut room,
         &mut out,

@@ -4,6 +4,10 @@
 
 ghost use Rattle.std.specs.Prelude.{◌<◌};
 
+use std::fs::File;
+use std::os::fd::AsRawFd;
+use std::rt::HostRuntime;
+
 const OUT: i32 = 1;
 
 // The number in the first count bytes, little-endian.
@@ -99,14 +103,16 @@ fn run_vector(fd: i32, name: &mut [u8], file: &mut [u8]) -> bool {
     true
 }
 
-fn main() {
-    let fd = os::open_read(b"vectors.bin");
+fn main(rt: HostRuntime) {
+    let Ok(vectors) = File::open(&rt, "vectors.bin") else {
+        return;
+    };
+    let fd = vectors.as_raw_fd();
     let mut name = [0u8; 64];
     let mut file = [0u8; 65536];
     let mut turns: u32 = 0;
     while turns < 100000 {
         if !run_vector(fd, &mut name, &mut file) {
-            libc::close(fd);
             return;
         }
         turns += 1;

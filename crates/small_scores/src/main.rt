@@ -6,6 +6,9 @@ ghost use Rattle.std.specs.Prelude.{◌≤◌, ◌<◌, length};
 
 use fates::{Places, words};
 use page::Item;
+use std::fs::File;
+use std::os::fd::AsRawFd;
+use std::rt::HostRuntime;
 use units::Grains;
 
 const OUT: i32 = 1;
@@ -182,7 +185,10 @@ fn below(bound: u64, x: u64) -> u64 {
 fn find(letters: &[u8], first: u8) -> u64 {
     below(
         letters.len() as u64,
-        bytes::scan::find(letters, 0, letters.len(), first) as u64,
+        letters
+            .iter()
+            .position(|b| *b == first)
+            .unwrap_or(letters.len()) as u64,
     )
 }
 
@@ -311,9 +317,19 @@ fn read_scores(score: &mut Score, file: &[u8]) {
     begin_score(score, b"");
 }
 
-fn main() {
+// The bytes of the file, of which there are none where it can't be opened.
+fn read_scores_file(rt: &HostRuntime, file: &mut [u8]) -> usize
+    ensures { result ≤ length file.new }
+{
+    match File::open(rt, "scores") {
+        Ok(scores) => io::read_full(scores.as_raw_fd(), file),
+        Err(_) => 0,
+    }
+}
+
+fn main(rt: HostRuntime) {
     let mut file = io::large_buffer();
     let mut score = [0u64; 565];
-    let n = io::read_full(os::open_read(b"scores"), &mut file);
+    let n = read_scores_file(&rt, &mut file);
     read_scores(&mut score, &file[..n]);
 }

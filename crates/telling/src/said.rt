@@ -8,6 +8,7 @@ ghost use Rattle.telling.specs.Said.{most_name, said_room, told_name, blamed, re
 
 use ascii::put_bytes;
 use session::Refusal;
+use std::rt::HostRuntime;
 
 // A name is told up to this many bytes: what is longer is cut.
 const MOST_NAME: usize = 4352;
@@ -38,10 +39,10 @@ fn put_unread(text: &mut [u8], name: &[u8], error: i32) -> usize
     reasons::unread_line(text, &name[..n], error)
 }
 
-pub fn say_unread(name: &[u8], error: i32) {
+pub fn say_unread(rt: &HostRuntime, name: &[u8], error: i32) {
     let mut text = [0u8; SAID_ROOM];
     let n = put_unread(&mut text, name, error);
-    streams::say_first(&text, n);
+    streams::say_first(rt, &text, n);
 }
 
 // ---- an output that can't be written
@@ -54,10 +55,10 @@ fn put_unwritten(text: &mut [u8], name: &[u8], error: i32) -> usize
     reasons::unwritten_line(text, &name[..n], error)
 }
 
-pub fn say_unwritten(name: &[u8], error: i32) {
+pub fn say_unwritten(rt: &HostRuntime, name: &[u8], error: i32) {
     let mut text = [0u8; SAID_ROOM];
     let n = put_unwritten(&mut text, name, error);
-    streams::say_first(&text, n);
+    streams::say_first(rt, &text, n);
 }
 
 // ---- a refused opening
@@ -108,11 +109,11 @@ fn put_refusal(text: &mut [u8], score: &[u8], first: &[u8], file: &[u8], x: Refu
     }
 }
 
-fn say_refusal(file: &[u8], score: &[u8], first: &[u8], nineteen: bool) {
+fn say_refusal(rt: &HostRuntime, file: &[u8], score: &[u8], first: &[u8], nineteen: bool) {
     let mut text = [0u8; SAID_ROOM];
     let x = playing::why_refused(file, nineteen);
     let n = put_refusal(&mut text, score, first, file, x);
-    streams::say_first(&text, n);
+    streams::say_first(rt, &text, n);
 }
 
 // Whether the first n bytes of `out`, which a line printed, tell of an opening that is refused.
@@ -157,27 +158,27 @@ fn put_unopened(text: &mut [u8], first: &[u8]) -> usize
     )
 }
 
-fn tell_unopened(first: &[u8]) {
+fn tell_unopened(rt: &HostRuntime, first: &[u8]) {
     let mut text = [0u8; SAID_ROOM];
     let n = put_unopened(&mut text, first);
-    streams::say_first(&text, n);
+    streams::say_first(rt, &text, n);
 }
 
-fn say_unopened(first: &[u8], out: &[u8], n: usize)
+fn say_unopened(rt: &HostRuntime, first: &[u8], out: &[u8], n: usize)
     requires { n ≤ length out.now }
 {
     if is_unopened(out, n) {
-        tell_unopened(first);
+        tell_unopened(rt, first);
     }
 }
 
 // An input that ends with no line and no byte opens nothing either.
-pub fn say_empty(first: &[u8], lines: u64, kept: usize) {
+pub fn say_empty(rt: &HostRuntime, first: &[u8], lines: u64, kept: usize) {
     if 0 < lines {
         return;
     }
     if kept < 1 {
-        tell_unopened(first);
+        tell_unopened(rt, first);
     }
 }
 
@@ -185,6 +186,7 @@ pub fn say_empty(first: &[u8], lines: u64, kept: usize) {
 
 // Whether an opening has been refused, after a line that printed the first n bytes of `out`. People are told of it, and of a first line that opens nothing.
 pub fn after_line(
+    rt: &HostRuntime,
     file: &[u8],
     score: &[u8],
     first: &[u8],
@@ -196,9 +198,9 @@ pub fn after_line(
     ensures { result ≡ pick (tells_refusal (take n out.now)) true refused }
 {
     if !is_refusal(out, n) {
-        say_unopened(first, out, n);
+        say_unopened(rt, first, out, n);
         return refused;
     }
-    say_refusal(file, score, first, is_grace(out, n));
+    say_refusal(rt, file, score, first, is_grace(out, n));
     true
 }

@@ -4,6 +4,9 @@
 
 ghost use Rattle.std.specs.Prelude.{◌<◌, ◌≤◌};
 
+use std::fs::File;
+use std::os::fd::AsRawFd;
+use std::rt::HostRuntime;
 use unfolding::UnfoldReply;
 
 const OUT: i32 = 1;
@@ -90,20 +93,22 @@ fn run_next(fd: i32, input: &mut [u8], room: &mut [u8]) -> bool {
 }
 
 // All of them.
-fn run_cases(input: &mut [u8], room: &mut [u8]) {
-    let fd = os::open_read(b"extended.bin");
+fn run_cases(rt: &HostRuntime, input: &mut [u8], room: &mut [u8]) {
+    let Ok(file) = File::open(rt, "extended.bin") else {
+        return;
+    };
+    let fd = file.as_raw_fd();
     let mut turns: u32 = 0;
     while turns < 1000000 {
         if !run_next(fd, input, room) {
-            libc::close(fd);
             return;
         }
         turns += 1;
     }
 }
 
-fn main() {
+fn main(rt: HostRuntime) {
     let mut input = [0u8; INPUT_ROOM];
     let mut room = [0u8; FILE_ROOM];
-    run_cases(&mut input, &mut room);
+    run_cases(&rt, &mut input, &mut room);
 }
