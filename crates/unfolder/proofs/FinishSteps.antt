@@ -30,7 +30,6 @@ use Rattle.extended.specs.Layout.{events_start, extent_of}
 use Rattle.unfolding.specs.declared.Unfolding.{Unfolding}
 use Rattle.unfolding.specs.declared.Unfolding.TheVariants.{Made, BadFile}
 use Rattle.unfolding.specs.Extended.{extended_of}
-use Rattle.unfolding.specs.Unfolded.{items, page}
 use Rattle.unfolding.specs.Sizes.{score_of, counts_on, file_of}
 use Rattle.unfolding.specs.Answers.{judged, answered, room_left, unfolded_file}
 use Rattle.unfolding.proofs.LimitLaws.{limits-counted}

@@ -47,11 +47,11 @@ pub ruleset numbers = (name-asked, rules)
 module _ (f : List ℕ) (c : Extent) (t : List ℕ) (n : ℕ) (values : List ℕ) (count : ℕ) (asked : Nameable f c t n values count) where
   pub names-asked : (es ls ns : List ℕ) → ListRoom es ls → most_actions ≤ length ns → Namable f c values count es ls ns
   names-asked es ls ns p r =
-      let few = few-is c asked.decreases.short in
+      let few = few-is c asked.measured.short in
       let v = asked.valued in
       let most : count ≤ most_actions = v.few in
       record {
-        score = asked.decreases.foldable;
+        score = asked.measured.foldable;
         few = few.messages;
         short = few.text;
         count_most = most;
@@ -70,40 +70,40 @@ module _ (f : List ℕ) (c : Extent) (t : List ℕ) (n : ℕ) (values : List ℕ
     names-over m e =
         over-limit f m
         (λ l. let a : fits (score_in f).messages ≡ true = fits_both (score_in f).messages l.messages_few l.text_short in
-        let b : fits (score_in f).messages ≡ false = rw (messages-are f c asked.decreases.foldable) (told_over _ _ count es ls ns r listed e) in
+        let b : fits (score_in f).messages ≡ false = rw (messages-are f c asked.measured.foldable) (told_over _ _ count es ls ns r listed e) in
         let z : ◌≡◌ {A = ℕ} 0 1 = cc in omega arith)
 
     module _ (a b : ℕ) (e : r ≡ Named a b) where
       named-limits : within_limits (score_in f) ≡ true
       named-limits =
           let k = told_named _ _ count es ls ns r listed a b e in
-          let m = messages-are f c asked.decreases.foldable in
-          let few = few-is c asked.decreases.short in
-          let v = events-are f c asked.decreases.foldable in
+          let m = messages-are f c asked.measured.foldable in
+          let few = few-is c asked.measured.short in
+          let v = events-are f c asked.measured.foldable in
           let p : a ≡ length (score_in f).messages.entries = rw m k.count in
           let q : b ≡ length (score_in f).messages.text = rw m k.size in
           limits-hold (score_in f) (record {
             some = omega (arith, few.some);
             events_few = omega (arith, few.events);
-            items_few = asked.decreases.items_few;
-            actions_few = asked.decreases.actions_few;
+            items_few = asked.measured.items_few;
+            actions_few = asked.measured.actions_few;
             messages_few = omega (arith, k.few);
             text_short = omega (arith, k.short);
-            shallow = asked.decreases.shallow;
+            shallow = asked.measured.shallow;
           })
 
       pub names-listed : (es₀ ls₀ : List ℕ) → ListRoom es₀ ls₀ → length es ≡ length es₀ → length ls ≡ length ls₀ → Listed f c t ns (record { events = c.events; items = n; messages = a; text = b }) es ls
       unfolding counts_on
       names-listed es₀ ls₀ p u v =
           let k = told_named _ _ count es ls ns r listed a b e in
-          let m = messages-are f c asked.decreases.foldable in
+          let m = messages-are f c asked.measured.foldable in
           let w : count ≡ length (values_in f c) = asked.valued.count in
           record {
-            foldable = asked.decreases.foldable;
-            rows = asked.decreases.rows;
-            room = asked.decreases.room;
+            foldable = asked.measured.foldable;
+            rows = asked.measured.rows;
+            room = asked.measured.room;
             numbers_stand = rw (← w) (told-numbers _ _ count es ls ns r listed a b e);
-            counts = rw (m, events-are f c asked.decreases.foldable, ← asked.decreases.count, ← k.count, ← k.size);
+            counts = rw (m, events-are f c asked.measured.foldable, ← asked.measured.count, ← k.count, ← k.size);
             limits = named-limits;
             entries = rw m k.entries;
             labels = rw m k.text;

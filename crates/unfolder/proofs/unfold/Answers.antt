@@ -1,0 +1,25 @@
+-- The room, the faults of the score itself, then all that is found on the way.
+-- Assumes nothing.
+use Rattle.unfolder.proofs.CallSteps.{calls}
+use Rattle.unfolder.proofs.unfold.Goals as goal
+
+pub returns-then-room-lt-LONGEST_SCORE : goal.returns-then-room-lt-LONGEST_SCORE
+returns-then-room-lt-LONGEST_SCORE c = search calls
+
+pub check_extended-found-requires : goal.check_extended-found-requires
+check_extended-found-requires c = search calls
+
+pub measure-requires : goal.measure-requires
+measure-requires c = search calls
+
+pub enum_known-found : goal.enum_known-found
+enum_known-found c = search calls
+
+pub shape_of-room : goal.shape_of-room
+shape_of-room c = search calls
+
+pub returns-in-Right : goal.returns-in-Right
+returns-in-Right c = search calls
+
+pub returns-in-Wrong : goal.returns-in-Wrong
+returns-in-Wrong c = search calls
