@@ -1,6 +1,5 @@
 -- The loop is safe and ends: fewer events are left. Assumes nothing.
 use Prim.Native.Nat.{◌-◌, ◌≤◌}
-use borrow.Author.Rules.{rules}
 use Rattle.small_scores.proofs.settle.Given as goal
 
 abbrev pub invariant-loop-i : goal.invariant-loop-i

@@ -1,6 +1,5 @@
 -- The loop is safe and ends: fewer places are left. Assumes nothing.
 use Prim.Native.Nat.{◌-◌}
-use borrow.Author.Rules.{rules}
 use Rattle.small_scores.proofs.tell_all.Given as goal
 
 abbrev pub invariant-loop-p : goal.invariant-loop-p
