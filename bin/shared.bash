@@ -82,23 +82,28 @@ is_text() {
 
 # A program opens files by names in UTF-8 alone. What an argument names by other bytes it finds by a link: number I, in a folder that it is told of, leads to what its
 # argument I names, as seen from where it stands.
-names=''
+link_room=''
+unset POOLMIRROR_NAMES
 link_names() {
-  local name i=0
+  local name i=0 base=${TMPDIR:-/tmp}
+  is_text "$base" || base=/tmp
   for name in "$@"; do
     i=$((i + 1))
     ! is_text "$name" || continue
-    if [ -z "$names" ]; then
-      names=$(mktemp -d "${TMPDIR:-/tmp}/poolmirror.XXXXXXXXXX") || refuse "${TMPDIR:-/tmp}: no folder can be made there, and a name that is no text needs one"
-      export POOLMIRROR_NAMES=$names
+    if [ -z "$link_room" ]; then
+      link_room=$(mktemp -d "$base/poolmirror.XXXXXXXXXX") || refuse "$base: no folder can be made there, and a name that is no text needs one"
+      export POOLMIRROR_NAMES=$link_room
     fi
     [[ $name == /* ]] || name=/proc/self/cwd/$name
-    ln -s -- "$name" "$names/$i" 2>/dev/null || :
+    ln -s -- "$name" "$link_room/$i" 2>/dev/null || :
   done
 }
-forget_names() {
-  [ -z "$names" ] || rm -rf -- "$names"
-  names=''
+# Of the folder only the links, and the folder itself.
+forget_links() {
+  [ -n "$link_room" ] || return 0
+  rm -f -- "$link_room"/[0-9]*
+  rmdir -- "$link_room" 2>/dev/null || :
+  link_room=''
 }
 
 # run NAME [ARG..]: runs the linked program on the caller's own standard output, with the descriptor `in` as its standard input, and ends the script as it ended.
@@ -122,14 +127,14 @@ run() {
   wait "$running" || ended=$?
   if [ -n "$caught" ]; then
     wait "$running" || :
-    forget_names
+    forget_links
     trap - "$caught"
     kill -s "$caught" "$$"
     exit $((128 + $(kill -l "$caught"))) # bash does not die of QUIT.
   fi
 
   read -r -n 1 -u "$told" digit || :
-  forget_names
+  forget_links
   case $ended:$digit in
     0:[012]) exit "$digit" ;;
     2:) exit 2 ;; # bin/linked has said what is missing.
