@@ -37,8 +37,18 @@ find_tools() {
   [ -x "$tools/lib/ld-linux-x86-64.so.2" ] || refuse "$tools/lib/ld-linux-x86-64.so.2: no such loader. Is the rt on the path that of a whole Rattle toolchain for this machine?"
 }
 
-# Built, and no source has changed since.
-built() { [ -x "$1" ] && [ -z "$(find "$here/crates" "$here/crates.txt" -type f -newer "$1" -print -quit 2>/dev/null)" ]; }
+# Built, and no source has changed since. What rt keeps of its own work, in the folders `out`, is no source.
+built() { [ -x "$1" ] && [ -z "$(find "$here/crates" "$here/crates.txt" -name out -type d -prune -o -type f -newer "$1" -print -quit 2>/dev/null)" ]; }
+
+# link NAME: proves the crate, links the program, and lays it in target/bin, whole or not at all. `rt run` is the one command that links a program, and runs it: what the
+# program says on nothing, behind rt's last line, is not shown.
+link() {
+  cd "$here/crates/$1" || return
+  rt run 2>&1 >/dev/null | sed '/^rt: running /,$d'
+  [ "${PIPESTATUS[0]}" = 0 ] || return
+  mkdir -p "$here/target/bin"
+  cp "out/$1" "$here/target/bin/$1.new" && mv -f "$here/target/bin/$1.new" "$here/target/bin/$1"
+}
 
 # build NAME: proves and builds the program where it is not built yet, or older than the repository. One build at a time: a second script waits for the first one's build and
 # finds it done. A build that failed leaves nothing to run. A signal during a build ends the script alone; the build goes on to its end, and a later script waits for it.
@@ -50,7 +60,7 @@ build() {
     [ ! -x "$made" ] || why="$1 is older than the repository"
     type -P rt >/dev/null || refuse "$why, and rt, which builds it, is not on the path. Install the Rattle toolchain and put the folder that has rt on the path."
     say "$why: proving and building it (some minutes)"
-    if (trap - PIPE && cd "$here/" && rt check "$1") </dev/null >&2 {in}<&- && [ -x "$made" ]; then
+    if (trap - PIPE && link "$1") </dev/null >&2 {in}<&- && [ -x "$made" ]; then
       touch "$made" 2>/dev/null || :
     else
       rm -f "$made"
@@ -58,6 +68,42 @@ build() {
     fi
   fi
   exec {lock}<&-
+}
+
+# Whether the bytes are text in UTF-8.
+is_text() {
+  local LC_ALL=C
+  [[ $1 == *[$'\x80'-$'\xff']* ]] || return 0
+  local t=$'[\x80-\xbf]'
+  local two=$'[\xc2-\xdf]'$t three=$'(\xe0[\xa0-\xbf]|[\xe1-\xec\xee\xef]'$t$'|\xed[\x80-\x9f])'$t
+  local four=$'(\xf0[\x90-\xbf]|[\xf1-\xf3]'$t$'|\xf4[\x80-\x8f])'$t$t
+  [[ $1 =~ ^([$'\x01'-$'\x7f']|$two|$three|$four)*$ ]]
+}
+
+# A program opens files by names in UTF-8 alone. What an argument names by other bytes it finds by a link: number I, in a folder that it is told of, leads to what its
+# argument I names, as seen from where it stands.
+link_room=''
+unset POOLMIRROR_NAMES
+link_names() {
+  local name i=0 base=${TMPDIR:-/tmp}
+  is_text "$base" || base=/tmp
+  for name in "$@"; do
+    i=$((i + 1))
+    ! is_text "$name" || continue
+    if [ -z "$link_room" ]; then
+      link_room=$(mktemp -d "$base/poolmirror.XXXXXXXXXX") || refuse "$base: no folder can be made there, and a name that is no text needs one"
+      export POOLMIRROR_NAMES=$link_room
+    fi
+    [[ $name == /* ]] || name=/proc/self/cwd/$name
+    ln -s -- "$name" "$link_room/$i" 2>/dev/null || :
+  done
+}
+# Of the folder only the links, and the folder itself.
+forget_links() {
+  [ -n "$link_room" ] || return 0
+  rm -f -- "$link_room"/[0-9]*
+  rmdir -- "$link_room" 2>/dev/null || :
+  link_room=''
 }
 
 # run NAME [ARG..]: runs the linked program on the caller's own standard output, with the descriptor `in` as its standard input, and ends the script as it ended.
@@ -71,6 +117,7 @@ catch() {
 run() {
   local signal out told ended=0 digit=''
   for signal in HUP INT QUIT TERM; do trap "catch $signal" "$signal"; done
+  link_names "${@:2}"
   exec {out}>&1
   exec {told}< <(exec "$BASH" "$here/bin/linked" "$@" 0<&"$in" 3>&1 1>&"$out" {in}<&- {out}>&-)
   running=$!
@@ -80,12 +127,14 @@ run() {
   wait "$running" || ended=$?
   if [ -n "$caught" ]; then
     wait "$running" || :
+    forget_links
     trap - "$caught"
     kill -s "$caught" "$$"
     exit $((128 + $(kill -l "$caught"))) # bash does not die of QUIT.
   fi
 
   read -r -n 1 -u "$told" digit || :
+  forget_links
   case $ended:$digit in
     0:[012]) exit "$digit" ;;
     2:) exit 2 ;; # bin/linked has said what is missing.

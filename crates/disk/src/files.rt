@@ -50,7 +50,14 @@ pub fn open(rt: &HostRuntime, path: &[u8]) -> Opened {
 pub fn read_file(rt: &HostRuntime, path: &[u8], buf: &mut [u8]) -> FileRead
     ensures { (result.count ≤ length buf.new) × Told result.count result.error }
 {
-    match open(rt, path) {
+    read_opened(rt, open(rt, path), buf)
+}
+
+// The same of a file that was opened, or was not.
+pub fn read_opened(rt: &HostRuntime, o: Opened, buf: &mut [u8]) -> FileRead
+    ensures { (result.count ≤ length buf.new) × Told result.count result.error }
+{
+    match o {
         Opened::At(mut file) => read_input(rt, &mut file, buf),
         Opened::Failed(error) => FileRead { count: 0, error },
     }

@@ -2,7 +2,7 @@
 #![tactic(auto)]
 
 pub use failures::Saved;
-pub use files::{FileRead, open, read_file, read_input};
+pub use files::{FileRead, open, read_file, read_input, read_opened};
 pub use saving::save;
 
 mod failures;

@@ -3,6 +3,7 @@
 
 ghost use Rattle.std.specs.Prelude.{◌≡◌, ◌+◌, ◌≤◌, length};
 
+use ascii::{put_byte, put_number};
 use checking::Tally;
 use disk::{FileRead, Saved};
 use links::{Opened, PATH_ROOM};
@@ -26,6 +27,9 @@ const WRITTEN_ROOM: usize = writer::TEXT_ROOM;
 
 // Room for any line, with a name of any length in it, and for any page of words.
 const LINE_ROOM: usize = 8192;
+
+// The longest path of the folder of links: a slash and a number have room behind it.
+const MOST_LINKS_PATH: usize = 4064;
 
 // The error number of what is too large.
 const TOO_LARGE: i32 = 27;
@@ -93,22 +97,50 @@ fn read_order(rt: &HostRuntime, arg: &mut [u8]) -> Order {
 
 // ---- files
 
-// A file's bytes, or standard input's, as many as there is room for.
-fn read_named(rt: &HostRuntime, name: &[u8], file: &mut [u8]) -> FileRead
+// Lays the path of the link to what argument i names, which bin/shared.bash makes where the name is no text: std opens a file by text alone. Answers the path's length, 0 where there is none.
+fn put_link(rt: &HostRuntime, i: usize, place: &mut [u8]) -> usize
+    requires { length place.old ≡ 4096 }
+    ensures { (result ≤ 4096) × (length place.new ≡ 4096) }
+{
+    let Ok(n) = rt.var("POOLMIRROR_NAMES", place) else {
+        return 0;
+    };
+    if MOST_LINKS_PATH < n {
+        return 0;
+    }
+    let at = put_byte(place, n, b'/');
+    put_number(place, at, i as u64)
+}
+
+// The file that argument i names, open for reading.
+fn open_named(rt: &HostRuntime, i: usize, name: &[u8]) -> Opened {
+    if links::text_of(name).is_ok() {
+        return disk::open(rt, name);
+    }
+    let mut place = [0u8; PATH_ROOM];
+    let n = put_link(rt, i, &mut place);
+    if n == 0 {
+        return disk::open(rt, name);
+    }
+    disk::open(rt, &place[..n])
+}
+
+// The bytes of the file that argument i names, or standard input's, as many as there is room for.
+fn read_named(rt: &HostRuntime, i: usize, name: &[u8], file: &mut [u8]) -> FileRead
     ensures { result.count ≤ length file.new }
 {
     if orders::is_standard(name) {
         let mut input = rt.stdin();
         return disk::read_input(rt, &mut input, file);
     }
-    disk::read_file(rt, name, file)
+    disk::read_opened(rt, open_named(rt, i, name), file)
 }
 
 // The same of a name that is shown, where more than there is room for is told as too large.
-fn read_whole(rt: &HostRuntime, name: &[u8], file: &mut [u8]) -> FileRead
+fn read_whole(rt: &HostRuntime, i: usize, name: &[u8], file: &mut [u8]) -> FileRead
     ensures { result.count ≤ length file.new }
 {
-    let got = read_named(rt, name, file);
+    let got = read_named(rt, i, name, file);
     if file.len() <= got.count {
         return FileRead {
             count: 0,
@@ -131,6 +163,7 @@ struct Run {
 // The line of a name.
 fn check_name(
     rt: &HostRuntime,
+    i: usize,
     arg: &mut [u8],
     n: usize,
     file: &mut [u8],
@@ -141,7 +174,7 @@ fn check_name(
     requires { (n ≤ length arg.old) × (length arg.old ≡ 4096) × (8192 ≤ length out.old) }
 {
     let from = 0;
-    let read = read_named(rt, &arg[from..n], file);
+    let read = read_named(rt, i, &arg[from..n], file);
     let shown = orders::show(arg, n);
     let size = read.count;
     let a = checking::account_line(out, &arg[from..shown], read.error, &file[from..size]);
@@ -157,6 +190,7 @@ fn check_name(
 fn check_if(
     rt: &HostRuntime,
     named: bool,
+    i: usize,
     arg: &mut [u8],
     n: usize,
     file: &mut [u8],
@@ -167,7 +201,7 @@ fn check_if(
     requires { (n ≤ length arg.old) × (length arg.old ≡ 4096) × (8192 ≤ length out.old) }
 {
     if named {
-        return check_name(rt, arg, n, file, out, t, o);
+        return check_name(rt, i, arg, n, file, out, t, o);
     }
     Run {
         tally: t,
@@ -191,7 +225,7 @@ fn check_argument(
     let from = 0;
     let named = orders::is_name(s.order, &arg[from..n]);
     let order = orders::take(s.order, i, &arg[from..n]);
-    check_if(rt, named, arg, n, file, out, s.tally, order)
+    check_if(rt, named, i, arg, n, file, out, s.tally, order)
 }
 
 // The line of each name, in order.
@@ -279,6 +313,7 @@ fn perform<R: Read>(
 // Plays the score by commands that are open.
 fn play_score<R: Read>(
     rt: &HostRuntime,
+    i: usize,
     score: &mut [u8],
     n: usize,
     list: &[u8],
@@ -290,7 +325,7 @@ fn play_score<R: Read>(
     requires { (n ≤ length score.old) × (length score.old ≡ 4096) × (length list.now ≤ 4096) × (8192 ≤ length out.old) }
 {
     let from = 0;
-    let read = read_named(rt, &score[from..n], file);
+    let read = read_named(rt, i, &score[from..n], file);
     let named = orders::show(score, n);
     if read.error != 0 {
         return unread(rt, &score[from..named], read.error);
@@ -327,6 +362,7 @@ fn play(
         let mut input = rt.stdin();
         return play_score(
             rt,
+            names.first,
             score,
             n,
             &list[from..listed],
@@ -336,12 +372,13 @@ fn play(
             out,
         );
     }
-    let commands = disk::open(rt, &list[from..m]);
+    let commands = open_named(rt, names.second, &list[from..m]);
     let listed = orders::show(list, m);
     match commands {
         Opened::Failed(error) => unread(rt, &list[from..listed], error),
         Opened::At(mut input) => play_score(
             rt,
+            names.first,
             score,
             n,
             &list[from..listed],
@@ -448,7 +485,7 @@ fn read_named_text(
     let names = o.names;
     let n = read_argument(rt, names.first, name);
     let m = read_argument(rt, names.second, made);
-    let got = read_whole(rt, &name[from..n], text);
+    let got = read_whole(rt, names.first, &name[from..n], text);
     let shown = orders::show(name, n);
     if got.error != 0 {
         return unread(rt, &name[from..shown], got.error);
@@ -503,7 +540,7 @@ fn write_named_score(
     let names = o.names;
     let n = read_argument(rt, names.first, name);
     let m = read_argument(rt, names.second, made);
-    let got = read_named(rt, &name[from..n], file);
+    let got = read_named(rt, names.first, &name[from..n], file);
     let shown = orders::show(name, n);
     if got.error != 0 {
         return unread(rt, &name[from..shown], got.error);
@@ -567,7 +604,7 @@ fn unfold_named(
     let names = o.names;
     let n = read_argument(rt, names.first, name);
     let m = read_argument(rt, names.second, made);
-    let got = read_whole(rt, &name[from..n], extended);
+    let got = read_whole(rt, names.first, &name[from..n], extended);
     let shown = orders::show(name, n);
     if got.error != 0 {
         return unread(rt, &name[from..shown], got.error);
