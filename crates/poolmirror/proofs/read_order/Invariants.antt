@@ -1,9 +1,8 @@
 -- The bytes that are lent for an argument keep their number, and the arguments come to an end.
 -- Assumes nothing.
 use mathlib.Core.Path.{◌≡◌}
-use Prim.Native.Nat.{◌-◌, ◌≤◌}
+use Prim.Native.Nat.{◌-◌}
 use lib.ListN.{length}
-use borrow.Author.Rules.{rules}
 use Rattle.poolmirror.proofs.read_order.Given as goal
 
 abbrev pub invariant-loop-i : goal.invariant-loop-i
