@@ -15,10 +15,9 @@ use Rattle.ascii.specs.Laying.{Laid}
 use Rattle.score.specs.File.{Accepted}
 use Rattle.lines.specs.declared.Fed.{Fed}
 use Rattle.lines.specs.Input.{kept_bytes, line_length, kept_line, fed_of, Feeds}
-use Rattle.playing.specs.Printed.{Stand, carried}
+use Rattle.playing.specs.Printed.{carried}
 use Rattle.playing.specs.Inner.{Carries}
 use Rattle.chunks.specs.declared.Progress.{Progress}
-use Rattle.chunks.specs.declared.Step.{Step}
 use Rattle.chunks.specs.Reading.{Reading, ReadOn, line_read, line_on, last_read}
 use Rattle.chunks.specs.Inner.{reading_of, Going, WentOn, Ended}
 

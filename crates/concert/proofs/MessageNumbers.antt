@@ -1,6 +1,6 @@
 -- Every message that the rules give an accepted file's parts has a number below 65,536: so its part and its number can be read back from one word.
 -- From the page's actions to the cues, and on to what is sent. Assumes nothing.
-use mathlib.Core.Path.{◌≡◌, sym, subst, ◌∙◌}
+use mathlib.Core.Path.{sym, subst, ◌∙◌}
 use Prim.Native.Nat.{ℕ, ◌+◌, ◌<◌}
 use mathlib.Core.Bool.{Bool, true, false}
 use mathlib.Core.List.{List, [], ◌∷◌}
@@ -8,7 +8,6 @@ use native.Mathlib.Omega.{arith}
 use Rattle.base.specs.Tests.{pick}
 use Rattle.page.specs.declared.Item.{Item}
 use Rattle.score.specs.File.{Accepted}
-use Rattle.score.specs.Piece.{decode}
 use Rattle.items.proofs.Ranges.{Ranges, none, more}
 use Rattle.rules.specs.Rules.{Reading, reading_of, Outcome, played, dropped, undecided}
 use Rattle.rules.specs.Page.{Cue, cues}

@@ -1,10 +1,10 @@
 -- Without a session every line is bad, and clock and total are 0 at the end. Assumes nothing.
 use mathlib.Core.Path.{◌≡◌, refl, ap, ◌∙◌}
 use Prim.Native.Nat.{ℕ, ◌+◌, ◌≤◌}
-use mathlib.Core.Bool.{Bool, true, false}
+use mathlib.Core.Bool.{false}
 use mathlib.Core.List.{List, [], ◌∷◌, ◌++◌}
 use native.Mathlib.Omega.{arith}
-use lib.Dec.{eqb, leb}
+use lib.Dec.{eqb}
 use lib.ListN.{length}
 use borrow.Author.Tests.{le-leb, ne_eqb}
 use Rattle.base.specs.Tests.{pick}
@@ -19,7 +19,6 @@ use Rattle.opening.specs.Opening.{zeros, opening_check}
 use Rattle.opening.specs.Replies.{opening_reply}
 use Rattle.opening.proofs.ClearedLaws.{zeros-length}
 use Rattle.opening.proofs.Opened.{refused-kept, zeros-no-session}
-use Rattle.sequencer.specs.declared.Figures.{Figures}
 use Rattle.sequencer.specs.Replies.{report_reply}
 use Rattle.sequencer.specs.Calls.{report_check, if_known, reported}
 use Rattle.lines.specs.declared.Command.{Command}

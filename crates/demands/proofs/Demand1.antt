@@ -5,7 +5,7 @@ use mathlib.Core.Path.{◌≡◌, refl, sym, ap, ◌∙◌}
 use mathlib.Core.List.{List}
 use Prim.Native.Nat.{ℕ, ◌*◌}
 use native.Mathlib.Omega.{arith}
-use lib.ListN.{length, take, drop}
+use lib.ListN.{length, drop}
 use denote.Ref.{Bor}
 use Rattle.base.specs.Checks.{Check, fine, refused}
 use Rattle.contents.specs.declared.Verdict.{Verdict}
@@ -22,12 +22,10 @@ use Rattle.rules.specs.Terms.{Terms}
 use Rattle.session.specs.declared.Refusal.{Refusal}
 use Rattle.session.specs.Layout.{memory_size}
 use Rattle.session.specs.Replies.{refusal_row}
-use Rattle.opening.specs.declared.Opening.{Opening}
 use Rattle.opening.specs.declared.Opening.TheVariants.{Refused as not_opened}
 use Rattle.opening.specs.Replies.{opening_reply}
 use Rattle.opening.specs.Opening.{opening_check, OpeningResult, opened}
 use Rattle.opening.proofs.Opened.{refused-kept}
-use Rattle.sequencer.specs.declared.Sending.{Sending}
 use Rattle.sequencer.specs.declared.Sending.TheVariants.{Sent, Refused as not_sent}
 use Rattle.sequencer.specs.declared.Report.{Report}
 use Rattle.sequencer.specs.declared.Report.TheVariants.{Refused as not_reported}

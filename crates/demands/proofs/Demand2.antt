@@ -1,11 +1,10 @@
 -- Demand 2 over session memory: the answers of an opening and of a list of calls after it, as the contracts have them, are those of the history; and what the memory
 -- is like after them. From the opening on, call by call. Assumes nothing.
 use mathlib.Core.Path.{◌≡◌, refl, ap, ap₂, sym, ◌∙◌}
-use Prim.Native.Nat.{ℕ, zero, suc, ◌+◌, ◌*◌, ◌≤◌, ◌<◌}
+use Prim.Native.Nat.{ℕ, ◌+◌}
 use mathlib.Core.Bool.{true}
-use mathlib.Core.List.{List, [], ◌∷◌, ◌++◌, map}
-use native.Mathlib.Omega.{arith}
-use lib.ListN.{length, get_or, drop, length-map}
+use mathlib.Core.List.{List, [], ◌∷◌, map}
+use lib.ListN.{length, drop, length-map}
 use Rattle.base.specs.Checks.{Check, fine, refused}
 use Rattle.score.specs.Piece.{decode}
 use Rattle.score.specs.File.{Accepted}
@@ -15,7 +14,7 @@ use Rattle.session.specs.declared.Refusal.{Refusal}
 use Rattle.session.specs.Layout.{memory_size}
 use Rattle.session.specs.Parts.{sounds}
 use Rattle.session.specs.Session.{is_session}
-use Rattle.sending.specs.Room.{Message, room_words, filled, pairs_in}
+use Rattle.sending.specs.Room.{pairs_in}
 use Rattle.sending.proofs.SentLaws.{pairs-filled}
 use Rattle.opening.specs.Replies.{opening_reply}
 use Rattle.opening.specs.Opening.{opened}
@@ -24,7 +23,7 @@ use Rattle.sequencer.specs.Replies.{sending_reply}
 use Rattle.sequencer.proofs.CallsKeep.{heard-keeps, pass-keeps}
 use Rattle.demands.specs.History.{Call, note, pass, report, look_up, Now, start, verdict, after}
 use Rattle.demands.specs.Messages.{Sent}
-use Rattle.demands.specs.Answers.{Answer, opening, message_of, sending_answer, messages_of, if_granted, messages_by, answer, answers, sounding_in, answers_of, run_of}
+use Rattle.demands.specs.Answers.{Answer, message_of, sending_answer, messages_of, if_granted, messages_by, answer, answers, sounding_in, answers_of, run_of}
 use Rattle.demands.specs.Memory.{Openable, memory_after, memory_after_all, answers_in, run_in}
 use Rattle.demands.specs.Demands.{sent_by, messages_in, sent_in}
 use Rattle.demands.proofs.MemoryAndHistory.Holds.{Holds}

@@ -12,7 +12,7 @@ use Rattle.rules.specs.Parts.{sounding_items}
 use Rattle.session.specs.Parts.{sounds}
 use Rattle.opening.specs.Opening.{opened}
 use Rattle.demands.specs.History.{Call, start}
-use Rattle.demands.specs.Answers.{message_of, sounding_in, answers_of, run_of}
+use Rattle.demands.specs.Answers.{message_of, sounding_in, run_of}
 use Rattle.demands.specs.Memory.{Openable, answers_in, run_in}
 use Rattle.demands.specs.Demands.{messages_in, whole_piece, sent_in, with_parts, every_part, only_parts, merge_all}
 use Rattle.demands.proofs.Parts.{run-of-parts}

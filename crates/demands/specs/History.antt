@@ -1,5 +1,5 @@
 -- Calls on a session, which of them are refused, and what the granted ones come to: clock, tempo, last event, and the heard set with the clock at each hearing.
-use Rattle.std.specs.Prelude.{ℕ, ◌+◌, ◌*◌, Bool, true, false, List, [], ◌∷◌, ◌++◌, leb, ltb, length}
+use Rattle.std.specs.Prelude.{ℕ, ◌+◌, ◌*◌, List, [], ◌∷◌, ◌++◌, leb, ltb, length}
 use Rattle.base.specs.Tests.{between}
 use Rattle.base.specs.Checks.{Check, fine, refused, need, first_fault}
 use Rattle.rules.specs.Terms.{Terms}

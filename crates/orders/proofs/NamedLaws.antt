@@ -22,14 +22,13 @@ use Rattle.menu.specs.Table.{row_of, commands, named_in, command_named}
 use Rattle.menu.proofs.TableLaws.{arguments-fit}
 use Rattle.orders.specs.declared.Argument.{Argument}
 use Rattle.orders.specs.declared.Argument.TheVariants.{Name, Plain, Wish, Dashed}
-use Rattle.orders.specs.declared.Usage.{Usage}
 use Rattle.orders.specs.declared.Usage.TheVariants.{Right, TooFew, TooMany, NoNumber, InputTwice}
 use Rattle.orders.specs.declared.Names.{Names}
 use Rattle.orders.specs.declared.Order.{Order}
-use Rattle.orders.specs.Usage.{dash, argument_of, is_name, no_names, name_more, fresh, stopped, is_right, begun_named, begun_as, begun, named, numbered, file_taken, number_taken, name_taken, taken_plain, taken_as, taken, closed, taken_all, ordered, is_input}
+use Rattle.orders.specs.Usage.{argument_of, is_name, no_names, name_more, fresh, stopped, is_right, begun_named, begun_as, begun, named, numbered, file_taken, number_taken, name_taken, taken_plain, taken_as, taken, closed, taken_all, ordered, is_input}
 use Rattle.orders.specs.Names.{plain_after, with_name, names_at}
 use Rattle.orders.proofs.OrderLaws.{fault-all}
-use Rattle.orders.proofs.RightLaws.{Fitting, ordered-right, more-counted, right_is}
+use Rattle.orders.proofs.RightLaws.{ordered-right, more-counted, right_is}
 
 -- ---- one after the other
 

@@ -9,7 +9,6 @@ use lib.Dec.{eqb, leb, ltb}
 use borrow.Author.Tests.{leb-false, ltb-false}
 use Rattle.base.specs.Tests.{pick}
 use Rattle.ascii.specs.Numbers.{is_number, value}
-use Rattle.ascii.specs.Words.{same}
 use Rattle.menu.specs.declared.Command.{Command}
 use Rattle.orders.specs.declared.Argument.{Argument}
 use Rattle.orders.specs.declared.Argument.TheVariants.{Name, Plain, Wish, Dashed}
@@ -20,7 +19,7 @@ use Rattle.orders.specs.declared.Order.{Order}
 use Rattle.menu.specs.declared.table.Lookup.{Lookup}
 use Rattle.menu.specs.declared.table.Lookup.TheVariants.{Known, Unknown}
 use Rattle.menu.specs.Table.{row_of, command_named}
-use Rattle.orders.specs.Usage.{dash, argument_of, no_names, name_more, fresh, stopped, is_right, begun_named, begun_as, begun, named, numbered, file_taken, number_taken, name_taken, taken_plain, taken_as, taken, closed, taken_all, ordered, is_input}
+use Rattle.orders.specs.Usage.{argument_of, no_names, name_more, fresh, stopped, is_right, begun_named, begun_as, begun, named, numbered, file_taken, number_taken, name_taken, taken_plain, taken_as, taken, closed, taken_all, ordered, is_input}
 
 -- no more names than the command takes, and standard input once at most
 pub record Fitting (o : Order) : Type 0 where

@@ -1,7 +1,7 @@
 -- What is said of an extended score, case by case; and which entry of the unfolded file is told.
 -- Assumes nothing.
-use mathlib.Core.Path.{◌≡◌, refl}
-use mathlib.Core.List.{List, []}
+use mathlib.Core.Path.{◌≡◌}
+use mathlib.Core.List.{List}
 use Prim.Native.Nat.{ℕ, ◌+◌, ◌-◌, ◌*◌, ◌/◌, ◌<◌, ◌≤◌}
 use native.Mathlib.Omega.{arith}
 use lib.ListN.{length}
@@ -12,20 +12,19 @@ use Rattle.ascii.specs.Laying.{Laid}
 use Rattle.ascii.proofs.LayLaws.{laid-nothing}
 use Rattle.contents.specs.declared.Counts.{Counts}
 use Rattle.contents.specs.declared.Fault.{Fault}
-use Rattle.contents.specs.declared.Fault.TheVariants.{BadEvent, BadItem, BadMessage, TextLeft}
+use Rattle.contents.specs.declared.Fault.TheVariants.{BadEvent, BadItem}
 use Rattle.contents.specs.declared.ItemRule.{ItemRule}
 use Rattle.contents.specs.Limits.{most_items, event_size, item_size}
 use Rattle.contents.specs.Replies.{rule_row}
-use Rattle.contents.specs.Contents.{events_at, items_at, messages_at}
+use Rattle.contents.specs.Contents.{events_at, items_at}
 use Rattle.contents.proofs.RuleRows.{field-within}
-use Rattle.session.specs.declared.Refusal.{Refusal}
 use Rattle.session.specs.declared.Refusal.TheVariants.{File}
 use Rattle.streams.specs.declared.ending.Ending.{Ending}
 use Rattle.extended.specs.declared.Extent.{Extent}
 use Rattle.extended.specs.Layout.{extended_contents, extent_of}
 use Rattle.unfolding.specs.declared.Unfolding.{Unfolding}
 use Rattle.unfolding.specs.declared.Unfolding.TheVariants.{Made, NoRoom, BadExtended, OverLimit, BadFile}
-use Rattle.contents.specs.declared.entries.Entry.TheVariants.{Nowhere, Event, Item}
+use Rattle.contents.specs.declared.entries.Entry.TheVariants.{Event, Item}
 use Rattle.contents.specs.Entries.{entry_at}
 use Rattle.refusals.specs.Texts.{unmade_line}
 use Rattle.refusals.specs.Unfolds.{folded_line}

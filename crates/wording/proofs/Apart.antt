@@ -11,7 +11,6 @@ use Rattle.contents.specs.declared.ItemRule.{ItemRule}
 use Rattle.contents.specs.declared.ItemRule.TheVariants as rule
 use Rattle.session.specs.declared.Refusal.{Refusal}
 use Rattle.session.specs.declared.Refusal.TheVariants.{MemoryShort, RoomShort, File, BadTempo, BadGrace, NoSession, NoEvent, NotAfter, BadMillis, ClockFull}
-use Rattle.text.specs.declared.Transcript.{Transcript}
 use Rattle.text.specs.declared.Transcript.TheVariants.{Made, NoRoom, BadText, BadFile}
 use Rattle.unfolding.specs.declared.Unfolding.TheVariants as unfolds
 use Rattle.wording.specs.declared.Row.{Row}

@@ -13,7 +13,6 @@ use Rattle.contents.specs.declared.ItemRule.TheVariants as rule
 use Rattle.session.specs.Replies.{refusal_row}
 use Rattle.session.specs.declared.Refusal.{Refusal}
 use Rattle.session.specs.declared.Refusal.TheVariants.{MemoryShort, RoomShort, File, BadTempo, BadGrace, NoSession, NoEvent, NotAfter, BadMillis, ClockFull}
-use Rattle.text.specs.declared.Transcript.{Transcript}
 use Rattle.text.specs.declared.Transcript.TheVariants.{Made, NoRoom, BadText, BadFile}
 use Rattle.text.specs.Replies.{transcript_row}
 use Rattle.unfolding.specs.declared.Unfolding.TheVariants as unfolds

@@ -25,7 +25,7 @@ use Rattle.unfolding.specs.declared.UnfoldReply.{UnfoldReply}
 use Rattle.unfolding.specs.Replies.{unfold_row}
 use Rattle.wording.specs.declared.Row.{Row}
 use Rattle.wording.specs.declared.Row.TheVariants.{Call, Text, Unfold}
-use Rattle.wording.specs.Words.{refusal_words, transcript_words, unfolding_words, most_words, row_number, row_words, reply_rows, row_count, first_row, done_number, done_words, reply_line, row_room, row_lines, reply_lines}
+use Rattle.wording.specs.Words.{refusal_words, transcript_words, unfolding_words, row_number, row_words, reply_rows, row_count, first_row, done_number, done_words, reply_line, row_room, row_lines, reply_lines}
 
 -- ---- which row
 

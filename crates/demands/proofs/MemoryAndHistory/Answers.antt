@@ -1,6 +1,6 @@
 -- Each call on a session's memory, granted or refused, answers as the history does, and leaves memory that says what the history says after it.
 -- Assumes nothing.
-use mathlib.Core.Path.{◌≡◌, refl, ◌∙◌}
+use mathlib.Core.Path.{◌≡◌, refl}
 use Prim.Native.Nat.{ℕ, ◌+◌}
 use mathlib.Core.Bool.{true}
 use mathlib.Core.List.{List}

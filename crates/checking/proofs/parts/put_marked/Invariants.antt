@@ -3,7 +3,6 @@
 use Prim.Native.Nat.{◌+◌, ◌-◌, ◌*◌, ◌≤◌}
 use Rattle.ascii.specs.Laying.{Laid}
 use Rattle.checking.specs.Inner.{marks_told, part_count, part_room}
-use Rattle.checking.proofs.PartLaws.{markings}
 use Rattle.checking.proofs.parts.put_marked.Given as goal
 
 abbrev pub invariant-loop-k : goal.invariant-loop-k

@@ -1,8 +1,3 @@
-use mathlib.Core.Path.{◌≡◌}
-use Prim.Native.Nat.{◌+◌, ◌-◌, ◌≤◌}
-use lib.ListN.{drop}
-use Rattle.score.specs.Piece.{decode}
-use Rattle.checking.specs.Tallies.{actions_in}
 use Rattle.checking.proofs.TallyLaws.{counting}
 use Rattle.checking.proofs.tallies.action_count.Goals as goal
 

@@ -5,7 +5,6 @@ use Prim.Native.Nat.{◌+◌, ◌-◌, ◌≤◌}
 use lib.ListN.{drop}
 use Rattle.score.specs.Piece.{decode}
 use Rattle.checking.specs.Tallies.{actions_in}
-use Rattle.checking.proofs.TallyLaws.{counting}
 use Rattle.checking.proofs.tallies.action_count.Given as goal
 
 abbrev pub invariant-loop-p : goal.invariant-loop-p

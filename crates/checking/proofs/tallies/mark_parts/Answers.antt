@@ -1,8 +1,3 @@
-use mathlib.Core.Path.{◌≡◌}
-use Prim.Native.Nat.{◌-◌, ◌≤◌}
-use lib.ListN.{drop}
-use Rattle.score.specs.Piece.{decode}
-use Rattle.checking.specs.Inner.{marked}
 use Rattle.checking.proofs.TallyLaws.{marking}
 use Rattle.checking.proofs.tallies.mark_parts.Goals as goal
 

@@ -5,7 +5,6 @@ use Prim.Native.Nat.{◌-◌, ◌≤◌}
 use lib.ListN.{drop}
 use Rattle.score.specs.Piece.{decode}
 use Rattle.checking.specs.Inner.{marked}
-use Rattle.checking.proofs.TallyLaws.{marking}
 use Rattle.checking.proofs.tallies.mark_parts.Given as goal
 
 abbrev pub invariant-loop-p : goal.invariant-loop-p

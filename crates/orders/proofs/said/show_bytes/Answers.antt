@@ -1,8 +1,3 @@
-use mathlib.Core.Path.{◌≡◌}
-use mathlib.Core.List.{map}
-use Prim.Native.Nat.{◌-◌, ◌≤◌}
-use lib.ListN.{length, take, drop}
-use Rattle.orders.specs.Said.{shown_byte}
 use Rattle.orders.proofs.SaidSteps.{showing}
 use Rattle.orders.proofs.said.show_bytes.Goals as goal
 

@@ -5,7 +5,6 @@ use mathlib.Core.List.{map}
 use Prim.Native.Nat.{◌-◌, ◌≤◌}
 use lib.ListN.{length, take, drop}
 use Rattle.orders.specs.Said.{shown_byte}
-use Rattle.orders.proofs.SaidSteps.{showing}
 use Rattle.orders.proofs.said.show_bytes.Given as goal
 
 abbrev pub invariant-loop-i : goal.invariant-loop-i

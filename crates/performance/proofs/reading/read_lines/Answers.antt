@@ -1,9 +1,4 @@
-use mathlib.Core.Path.{◌≡◌}
-use Prim.Native.Nat.{◌≤◌, ◌-◌, ◌*◌}
-use lib.ListN.{length}
 use borrow.Author.Rules.{rules}
-use Rattle.lines.specs.Input.{kept_bytes}
-use Rattle.playing.specs.Inner.{Asked}
 use Rattle.performance.proofs.ChunkSteps.{inputs}
 use Rattle.performance.proofs.reading.read_lines.Goals as goal
 

@@ -1,9 +1,5 @@
-use mathlib.Core.Path.{◌≡◌}
-use Prim.Native.Nat.{◌-◌}
-use lib.ListN.{length}
-use Rattle.chunks.specs.Inner.{reading_of}
 use borrow.Author.Rules.{rules}
-use Rattle.performance.proofs.ChunkSteps.{Taking, taking_step, taking-lines, onward, failed, chunks}
+use Rattle.performance.proofs.ChunkSteps.{taking_step, taking-lines, onward, failed, chunks}
 use Rattle.performance.proofs.reading.take_chunk.Goals as goal
 
 pub loop-at-init : goal.loop-at-init

@@ -4,8 +4,7 @@ use mathlib.Core.Path.{◌≡◌}
 use Prim.Native.Nat.{◌-◌}
 use lib.ListN.{length}
 use Rattle.chunks.specs.Inner.{reading_of}
-use borrow.Author.Rules.{rules}
-use Rattle.performance.proofs.ChunkSteps.{Taking, taking_step, taking-lines, onward, failed, chunks}
+use Rattle.performance.proofs.ChunkSteps.{Taking}
 use Rattle.performance.proofs.reading.take_chunk.Given as goal
 
 abbrev pub invariant-loop-at : goal.invariant-loop-at

@@ -1,7 +1,3 @@
-use Prim.Native.Nat.{◌+◌, ◌-◌, ◌*◌, ◌≤◌}
-use lib.ListN.{take}
-use Rattle.ascii.specs.Laying.{Laid}
-use Rattle.wording.specs.Words.{reply_rows, row_count, row_lines, row_room}
 use Rattle.wording.proofs.RowLaws.{tabling}
 use Rattle.wording.proofs.replies.put_rows.Goals as goal
 
