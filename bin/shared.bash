@@ -83,9 +83,9 @@ is_text() {
 # A program opens files by names in UTF-8 alone. What an argument names by other bytes it finds by a link: number I, in a folder that it is told of, leads to what its
 # argument I names, as seen from where it stands.
 link_room=''
-unset POOLMIRROR_NAMES
 link_names() {
   local name i=0 base=${TMPDIR:-/tmp}
+  unset POOLMIRROR_NAMES
   is_text "$base" || base=/tmp
   for name in "$@"; do
     i=$((i + 1))
