@@ -83,26 +83,76 @@ is_text() {
 # A program opens files by names in UTF-8 alone. What an argument names by other bytes it finds by a link: number I, in a folder that it is told of, leads to what its
 # argument I names, as seen from where it stands.
 link_room=''
-link_names() {
-  local name i=0 base=${TMPDIR:-/tmp}
-  unset POOLMIRROR_NAMES
+make_link_room() {
+  local base=${TMPDIR:-/tmp}
+  [ -z "$link_room" ] || return 0
   is_text "$base" || base=/tmp
+  link_room=$(mktemp -d "$base/poolmirror.XXXXXXXXXX") || refuse "$base: no folder can be made there, and a name that is no text needs one"
+}
+link_names() {
+  local name i=0
+  unset POOLMIRROR_NAMES POOLMIRROR_SAVED
   for name in "$@"; do
     i=$((i + 1))
     ! is_text "$name" || continue
-    if [ -z "$link_room" ]; then
-      link_room=$(mktemp -d "$base/poolmirror.XXXXXXXXXX") || refuse "$base: no folder can be made there, and a name that is no text needs one"
-      export POOLMIRROR_NAMES=$link_room
-    fi
+    make_link_room
+    export POOLMIRROR_NAMES=$link_room
     [[ $name == /* ]] || name=/proc/self/cwd/$name
     ln -s -- "$name" "$link_room/$i" 2>/dev/null || :
   done
+  case ${1-} in read | write | unfold) link_saved "$#" "${!#}" ;; esac
 }
+
+# link_saved I NAME: a file is saved under a name in UTF-8 alone, too. Where argument I names another by other bytes, or by a link to such a name, number I in a second folder leads
+# to where the program saves it: to what the name leads to, where that is text; else to a name of our own beside it, which has the permissions of what it replaces and is renamed
+# once it is whole.
+saved_as='' saved_for=''
+link_saved() {
+  local at='' room folder
+  [ -L "$2" ] || ! is_text "$2" || return 0
+  at=$(readlink -f -- "$2" 2>/dev/null && echo .) && at=${at%$'\n.'}
+  ! is_text "$2" || ! is_text "$at" || return 0
+  make_link_room
+  room=$link_room/saved
+  mkdir -- "$room" 2>/dev/null || return 0
+  if [ -z "$at" ]; then
+    # A loop of links; or there is no such folder.
+    if [ -L "$2" ]; then at=$room/$1; else at=$room/none/none; fi
+  elif is_text "$at"; then
+    :
+  elif [ -d "$at" ]; then
+    at=$room
+  elif [ -f "$at" ] || [ ! -e "$at" ]; then
+    folder=${at%/*}
+    ln -s -- "${folder:-/}" "$room/folder" 2>/dev/null || return 0
+    saved_for=$at
+    saved_as=$room/folder/poolmirror-$$-${link_room##*.}
+    [ ! -f "$at" ] || cp --attributes-only --preserve=mode -- "$at" "$saved_as" 2>/dev/null || :
+    at=$saved_as
+  else
+    return 0
+  fi
+  ! ln -s -- "$at" "$room/$1" 2>/dev/null || export POOLMIRROR_SAVED=$room
+}
+
+# keep_saved DONE: renames what was saved under a name of our own, or forgets it. False where it can't be renamed.
+keep_saved() {
+  local as=$saved_as
+  [ -n "$as" ] || return 0
+  saved_as=''
+  if $1 && mv -fT -- "$as" "$saved_for" 2>/dev/null; then
+    sync -- "${saved_for%/*}/" 2>/dev/null || :
+    return
+  fi
+  rm -f -- "$as"
+  ! $1
+}
+
 # Of the folder only the links, and the folder itself.
 forget_links() {
   [ -n "$link_room" ] || return 0
-  rm -f -- "$link_room"/[0-9]*
-  rmdir -- "$link_room" 2>/dev/null || :
+  rm -f -- "$link_room"/[0-9]* "$link_room"/saved/[0-9]* "$link_room"/saved/folder
+  rmdir -- "$link_room"/saved "$link_room" 2>/dev/null || :
   link_room=''
 }
 
@@ -127,6 +177,7 @@ run() {
   wait "$running" || ended=$?
   if [ -n "$caught" ]; then
     wait "$running" || :
+    keep_saved false
     forget_links
     trap - "$caught"
     kill -s "$caught" "$$"
@@ -134,6 +185,11 @@ run() {
   fi
 
   read -r -n 1 -u "$told" digit || :
+  if [ "$ended:$digit" = 0:0 ]; then
+    keep_saved true || { say "$saved_for: can't be written: what was made can't be renamed to it" && digit=2; }
+  else
+    keep_saved false
+  fi
   forget_links
   case $ended:$digit in
     0:[012]) exit "$digit" ;;

@@ -14,6 +14,8 @@ const MOST_LINKS: u64 = 40;
 
 const TOO_MANY_LINKS: i32 = 40;
 
+const NO_MEMORY: i32 = 12;
+
 // The path is reached, and the file is saved there this way; or it is a link that is followed.
 #[derive(Clone, Copy)]
 pub enum Turn {
@@ -74,11 +76,14 @@ fn size_by(read: Result<usize, i32>) -> Next
     }
 }
 
-// The number of the failure to read a link: std gives none where the text is not UTF-8.
+// The number of the failure to read a link: std gives none where there is no memory for its text, nor where that is not UTF-8.
 fn link_error(e: io::Error) -> i32 {
     match e.raw_os_error() {
         Some(error) => error,
-        None => NO_TEXT,
+        None => match e.kind() {
+            io::ErrorKind::OutOfMemory => NO_MEMORY,
+            _ => NO_TEXT,
+        },
     }
 }
 

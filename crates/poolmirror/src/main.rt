@@ -97,12 +97,17 @@ fn read_order(rt: &HostRuntime, arg: &mut [u8]) -> Order {
 
 // ---- files
 
+// The variables that tell where the links to files are that a name which is no text stands for: to those that are read, and to where one that is written is saved.
+const READ_NAMES: &str = "POOLMIRROR_NAMES";
+
+const SAVED_NAMES: &str = "POOLMIRROR_SAVED";
+
 // Lays the path of the link to what argument i names, which bin/shared.bash makes where the name is no text: std opens a file by text alone. Answers the path's length, 0 where there is none.
-fn put_link(rt: &HostRuntime, i: usize, place: &mut [u8]) -> usize
+fn put_link(rt: &HostRuntime, names: &str, i: usize, place: &mut [u8]) -> usize
     requires { length place.old ≡ 4096 }
     ensures { (result ≤ 4096) × (length place.new ≡ 4096) }
 {
-    let Ok(n) = rt.var("POOLMIRROR_NAMES", place) else {
+    let Ok(n) = rt.var(names, place) else {
         return 0;
     };
     if MOST_LINKS_PATH < n {
@@ -118,11 +123,21 @@ fn open_named(rt: &HostRuntime, i: usize, name: &[u8]) -> Opened {
         return disk::open(rt, name);
     }
     let mut place = [0u8; PATH_ROOM];
-    let n = put_link(rt, i, &mut place);
+    let n = put_link(rt, READ_NAMES, i, &mut place);
     if n == 0 {
         return disk::open(rt, name);
     }
     disk::open(rt, &place[..n])
+}
+
+// Saves the bytes as the file that argument i names.
+fn save_by(rt: &HostRuntime, i: usize, name: &[u8], made: &[u8]) -> Saved {
+    let mut place = [0u8; PATH_ROOM];
+    let n = put_link(rt, SAVED_NAMES, i, &mut place);
+    if n == 0 {
+        return disk::save(rt, name, made);
+    }
+    disk::save(rt, &place[..n], made)
 }
 
 // The bytes of the file that argument i names, or standard input's, as many as there is room for.
@@ -409,27 +424,34 @@ fn tell_saved(rt: &HostRuntime, name: &[u8], s: Saved) -> Ending {
 }
 
 // What was made goes to standard output, or into the file of this name: whole or not at all.
-fn save_named(rt: &HostRuntime, name: &mut [u8], n: usize, made: &[u8]) -> Ending
+fn save_named(rt: &HostRuntime, i: usize, name: &mut [u8], n: usize, made: &[u8]) -> Ending
     requires { (n ≤ length name.old) × (length name.old ≡ 4096) }
 {
     let from = 0;
     if orders::is_standard(&name[from..n]) {
         return orders::ending_if(streams::print(rt, made, made.len()));
     }
-    let s = disk::save(rt, &name[from..n], made);
+    let s = save_by(rt, i, &name[from..n], made);
     let shown = orders::show(name, n);
     tell_saved(rt, &name[from..shown], s)
 }
 
 // The first bytes of the room, as many as the reply says, where it was granted.
-fn save_made(rt: &HostRuntime, name: &mut [u8], n: usize, room: &[u8], size: usize) -> Ending
+fn save_made(
+    rt: &HostRuntime,
+    i: usize,
+    name: &mut [u8],
+    n: usize,
+    room: &[u8],
+    size: usize,
+) -> Ending
     requires { (n ≤ length name.old) × (length name.old ≡ 4096) }
 {
     if room.len() < size {
         return orders::ending_if(false);
     }
     let from = 0;
-    save_named(rt, name, n, &room[from..size])
+    save_named(rt, i, name, n, &room[from..size])
 }
 
 // What is refused is said, in the first n bytes of `out`, and has its ending; nothing is where something was made, and that is saved.
@@ -438,6 +460,7 @@ fn settle(
     out: &[u8],
     n: usize,
     ended: Ending,
+    i: usize,
     made: &mut [u8],
     m: usize,
     room: &[u8],
@@ -449,13 +472,14 @@ fn settle(
         streams::say_first(rt, out, n);
         return ended;
     }
-    save_made(rt, made, m, room, size)
+    save_made(rt, i, made, m, room, size)
 }
 
 fn read_score(
     rt: &HostRuntime,
     name: &[u8],
     text: &[u8],
+    i: usize,
     made: &mut [u8],
     m: usize,
     out: &mut [u8],
@@ -467,7 +491,7 @@ fn read_score(
     let n = transcribing::read_line(out, name, text, t);
     let ended = transcribing::ending_of(t);
     let size = text::replied_text(t).size;
-    settle(rt, out, n, ended, made, m, &room, size)
+    settle(rt, out, n, ended, i, made, m, &room, size)
 }
 
 // The text is read whole before anything is written.
@@ -491,7 +515,15 @@ fn read_named_text(
         return unread(rt, &name[from..shown], got.error);
     }
     let size = got.count;
-    read_score(rt, &name[from..shown], &text[from..size], made, m, out)
+    read_score(
+        rt,
+        &name[from..shown],
+        &text[from..size],
+        names.second,
+        made,
+        m,
+        out,
+    )
 }
 
 fn read_into(rt: &HostRuntime, o: Order, text: &mut [u8]) -> Ending {
@@ -511,6 +543,7 @@ fn write_score(
     rt: &HostRuntime,
     name: &[u8],
     file: &[u8],
+    i: usize,
     made: &mut [u8],
     m: usize,
     room: &mut [u8],
@@ -522,7 +555,7 @@ fn write_score(
     let n = transcribing::write_line(out, name, file, t);
     let ended = transcribing::ending_of(t);
     let size = text::replied_text(t).size;
-    settle(rt, out, n, ended, made, m, room, size)
+    settle(rt, out, n, ended, i, made, m, room, size)
 }
 
 fn write_named_score(
@@ -550,6 +583,7 @@ fn write_named_score(
         rt,
         &name[from..shown],
         &file[from..size],
+        names.second,
         made,
         m,
         room,
@@ -575,6 +609,7 @@ fn unfold_score(
     rt: &HostRuntime,
     name: &[u8],
     extended: &[u8],
+    i: usize,
     made: &mut [u8],
     m: usize,
     out: &mut [u8],
@@ -586,7 +621,7 @@ fn unfold_score(
     let n = transcribing::unfold_line(out, name, extended, u);
     let ended = transcribing::unfold_ending(u);
     let size = unfolding::replied_unfolding(u).size;
-    settle(rt, out, n, ended, made, m, &room, size)
+    settle(rt, out, n, ended, i, made, m, &room, size)
 }
 
 // The extended score is read whole before anything is written.
@@ -610,7 +645,15 @@ fn unfold_named(
         return unread(rt, &name[from..shown], got.error);
     }
     let size = got.count;
-    unfold_score(rt, &name[from..shown], &extended[from..size], made, m, out)
+    unfold_score(
+        rt,
+        &name[from..shown],
+        &extended[from..size],
+        names.second,
+        made,
+        m,
+        out,
+    )
 }
 
 fn unfold_into(rt: &HostRuntime, o: Order, extended: &mut [u8]) -> Ending {

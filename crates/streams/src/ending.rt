@@ -23,7 +23,7 @@ pub fn status_of(e: Ending) -> u8
     }
 }
 
-// Tells how the program ended, as one digit. Nothing is to be done where nobody listens.
+// Tells how the program ended, as one digit, in one write: std has no file for a descriptor that is handed down. Nothing is to be done where nobody listens.
 pub fn tell_ending(e: Ending) {
     io::write_all(STATUS, &[b'0' + status_of(e)]);
 }
