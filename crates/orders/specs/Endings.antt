@@ -6,15 +6,15 @@ use Rattle.orders.specs.declared.Usage.{Usage}
 use Rattle.orders.specs.declared.Usage.TheVariants.{Right, Wished, NoCommand, NoOption, TooFew, TooMany, NoNumber, InputTwice}
 
 -- A wrong usage has failed; any other order ends as it was carried out.
-abbrev pub ending_of : Usage → (done : Ending) → Ending
-ending_of Right done = done
-ending_of Wished done = done
-ending_of NoCommand done = Failed
-ending_of NoOption done = Failed
-ending_of TooFew done = Failed
-ending_of TooMany done = Failed
-ending_of NoNumber done = Failed
-ending_of InputTwice done = Failed
+abbrev pub ending_of : Usage → (run : Ending) → Ending
+ending_of Right run = run
+ending_of Wished run = run
+ending_of NoCommand run = Failed
+ending_of NoOption run = Failed
+ending_of TooFew run = Failed
+ending_of TooMany run = Failed
+ending_of NoNumber run = Failed
+ending_of InputTwice run = Failed
 
 -- What could not be read or written has failed.
 abbrev pub ending_if : (done : Bool) → Ending
