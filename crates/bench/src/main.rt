@@ -10,7 +10,7 @@ use session::layout::{MEMORY_SIZE, ROOM_SIZE};
 use std::fs::File;
 use std::os::fd::AsRawFd;
 use std::rt::{Env, HostRuntime};
-use text::Transcript;
+use text::TextError;
 use writer::TEXT_ROOM;
 
 const OUT: i32 = 1;
@@ -95,7 +95,7 @@ fn run_session(word: &[u8], mem: &mut [u64], room: &mut [u64], opened: Told) -> 
     opened
 }
 
-fn tell_transcript(t: Transcript) -> Told {
+fn tell_transcript(t: Result<usize, TextError>) -> Told {
     let r = text::replied_text(t);
     Told {
         number: r.number,

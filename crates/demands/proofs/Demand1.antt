@@ -1,6 +1,7 @@
 -- Demand 1, of every call: "a refusal carries its number exactly when the table says, and leaves session memory and send room as they came", words past 8,192 are
 -- never read or changed, and no second outcome satisfies a call's contract. Each contract is one equation for all that a call comes to, so two outcomes are both
 -- what it says. Assumes nothing.
+use Rattle.std.specs.Prelude.{Result}
 use mathlib.Core.Path.{◌≡◌, refl, sym, ap, ◌∙◌}
 use mathlib.Core.List.{List}
 use Prim.Native.Nat.{ℕ, ◌*◌}
@@ -14,7 +15,7 @@ use Rattle.contents.specs.Replies.{verdict_of}
 use Rattle.score.specs.Piece.{decode}
 use Rattle.score.specs.File.{checked}
 use Rattle.score.specs.LookUp.{label_reply, label_span, granted, Part}
-use Rattle.text.specs.declared.Transcript.{Transcript}
+use Rattle.text.specs.declared.TextError.{TextError}
 use Rattle.text.specs.Said.{said}
 use Rattle.text.specs.Written.{written}
 use Rattle.text.specs.Transcripts.{room_left, file_of, read_answer, write_answer}
@@ -135,18 +136,18 @@ pub one-report : (m : List ℕ) (r s : Report) → r ≡ reported m → s ≡ re
 one-report m r s p q = p ∙ sym q
 
 -- a reply, and the room that it leaves of what was made
-one-room : (w r s : Transcript) (made room m k : List ℕ) → r ≡ w → m ≡ room_left r made room → s ≡ w → k ≡ room_left s made room → (r ≡ s) × (m ≡ k)
-one-room w r s made room m k p a q b = (p ∙ sym q, a ∙ ap (λ (x : Transcript). room_left x made room) (p ∙ sym q) ∙ sym b)
+one-room : (w r s : Result ℕ TextError) (made room m k : List ℕ) → r ≡ w → m ≡ room_left r made room → s ≡ w → k ≡ room_left s made room → (r ≡ s) × (m ≡ k)
+one-room w r s made room m k p a q b = (p ∙ sym q, a ∙ ap (λ (x : Result ℕ TextError). room_left x made room) (p ∙ sym q) ∙ sym b)
 
 -- `read_text`: r and s are the replies, m and k the room as each leaves it.
-pub one-reading : (text room : List ℕ) (r s : Transcript) (m k : List ℕ)
+pub one-reading : (text room : List ℕ) (r s : Result ℕ TextError) (m k : List ℕ)
     → r ≡ read_answer (length room) text → m ≡ room_left r (file_of (said text)) room
     → s ≡ read_answer (length room) text → k ≡ room_left s (file_of (said text)) room
     → (r ≡ s) × (m ≡ k)
 one-reading text room r s m k p a q b = one-room _ r s _ room m k p a q b
 
 -- `write_text`
-pub one-writing : (f room : List ℕ) (r s : Transcript) (m k : List ℕ)
+pub one-writing : (f room : List ℕ) (r s : Result ℕ TextError) (m k : List ℕ)
     → r ≡ write_answer (length room) f → m ≡ room_left r (written (decode f)) room
     → s ≡ write_answer (length room) f → k ≡ room_left s (written (decode f)) room
     → (r ≡ s) × (m ≡ k)

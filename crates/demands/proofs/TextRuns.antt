@@ -1,5 +1,6 @@
 -- Demands 2 and 3 of a score that was read from its text: the file that the text makes is accepted and says what the text says, so the theorems of files are
 -- theorems of texts. And texts that make the same file are performed alike. Assumes nothing.
+use Rattle.std.specs.Prelude.{Ok}
 use mathlib.Core.Path.{◌≡◌, ap, sym, ◌∙◌}
 use Prim.Native.Nat.{ℕ, ◌+◌, ◌*◌, ◌≤◌, ◌<◌}
 use mathlib.Core.Bool.{true, false}
@@ -7,7 +8,6 @@ use mathlib.Core.List.{List, map}
 use lib.ListN.{length, get_or}
 use Rattle.score.specs.Piece.{Piece, decode}
 use Rattle.score.specs.File.{Accepted}
-use Rattle.text.specs.declared.Transcript.TheVariants.{Made}
 use Rattle.text.specs.Said.{piece, said}
 use Rattle.text.specs.Written.{written}
 use Rattle.text.specs.Transcripts.{file_of, read_answer}
@@ -32,7 +32,7 @@ use Rattle.demands.proofs.Demand3.{demand-3-c, demand-3-a-memory, demand-3-b-mem
 
 -- ---- a text whose reading is granted
 
-module _ (room : ℕ) (text : List ℕ) (n : ℕ) (granted : read_answer room text ≡ Made n) where
+module _ (room : ℕ) (text : List ℕ) (n : ℕ) (granted : read_answer room text ≡ Ok n) where
   pub read-openable : (m : List ℕ) (o : Terms) → Opens m o → Openable (file_of (said text)) m o
   read-openable m o c = record { accepted = granted-accepted room text n granted; long = c.long; sixteen = c.sixteen; speed = c.speed; graced = c.graced }
 
@@ -68,7 +68,7 @@ module _ (room : ℕ) (text : List ℕ) (n : ℕ) (granted : read_answer room te
   read-demand-3-b m A B apart o c cs = demand-3-b-memory (file_of (said text)) m A B apart o (read-openable m (with_parts (A + B) o) c) cs
 
 -- (c): two texts that say the same events, the same messages and the same items of the sounding parts are performed alike, look-ups included.
-module _ (room other : ℕ) (t u : List ℕ) (n k : ℕ) (granted : read_answer room t ≡ Made n) (granted' : read_answer other u ≡ Made k)
+module _ (room other : ℕ) (t u : List ℕ) (n k : ℕ) (granted : read_answer room t ≡ Ok n) (granted' : read_answer other u ≡ Ok k)
     (p q : Piece) (says : said t ≡ piece p) (says' : said u ≡ piece q) (o : Terms)
     (durations : p.durations ≡ q.durations) (labels : p.labels ≡ q.labels)
     (items : sounding_items (sounds o.parts) p.items ≡ sounding_items (sounds o.parts) q.items) where
@@ -94,6 +94,6 @@ pub written-run : (f : List ℕ) → ((i : ℕ) → get_or f i 0 < 256) → Acce
     → run_in (file_of (said (written (decode f)))) m o cs ≡ run_in f m o cs
 written-run f bytes a m o cs = ap (λ (g : List ℕ). run_in g m o cs) (reading-written f bytes a)
 
-pub reread-run : (room : ℕ) (t : List ℕ) (n : ℕ) → read_answer room t ≡ Made n → (m : List ℕ) (o : Terms) (cs : List Call)
+pub reread-run : (room : ℕ) (t : List ℕ) (n : ℕ) → read_answer room t ≡ Ok n → (m : List ℕ) (o : Terms) (cs : List Call)
     → run_in (file_of (said (written (decode (file_of (said t)))))) m o cs ≡ run_in (file_of (said t)) m o cs
 reread-run room t n granted m o cs = ap (λ (f : List ℕ). run_in f m o cs) (granted-again room t n granted)

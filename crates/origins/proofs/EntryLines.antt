@@ -1,5 +1,6 @@
 -- "for a text that we wrote, the line is that of the entry at fault": in a text laid out as Poolmirror writes it, the line of a byte of the file is that of the line
 -- which made its entry, refused or not. So of every accepted file and its own text. Assumes nothing.
+use Rattle.std.specs.Prelude.{Err}
 use mathlib.Core.Path.{◌≡◌, sym, ap, ◌∙◌}
 use mathlib.Core.Bool.{false}
 use mathlib.Core.List.{List, [], append-nil}
@@ -21,7 +22,7 @@ use Rattle.score.specs.File.{Accepted}
 use Rattle.score.specs.Encode.{text_bytes, counts_in, Lawful}
 use Rattle.score.proofs.EncodingFiles.{decode-lawful}
 use Rattle.text.specs.declared.Stage.TheVariants.{Start}
-use Rattle.text.specs.declared.Transcript.TheVariants.{BadFile}
+use Rattle.text.specs.declared.TextError.TheVariants.{BadFile}
 use Rattle.text.specs.Grammar.{Line, heading}
 use Rattle.text.specs.Said.{labels_of, durations_of, items_of, piece_of, piece, said}
 use Rattle.text.specs.Written.{text_of, lines, outset, written}
@@ -147,7 +148,7 @@ module _ (ls : List (List ℕ)) (hs : List Line) (lies : Nested ls Start outset 
   shown-line (shown.item n b h l a s r w k) = rw (entry-line Items n b) (item n b r (item-says n b))
   shown-line (shown.message n b w h k) = rw (entry-line Messages n b) (message n b w (label-says n b))
 
-  pub fault-line : (room : ℕ) (x : Fault) → read_answer room text ≡ BadFile x → FaultLine p hs x (place_in_text text (fault_row x).place).line
+  pub fault-line : (room : ℕ) (x : Fault) → read_answer room text ≡ Err (BadFile x) → FaultLine p hs x (place_in_text text (fault_row x).place).line
   unfolding place_in_text
   fault-line room x e =
       let h = fault-shown room text x e in

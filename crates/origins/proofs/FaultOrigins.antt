@@ -1,5 +1,6 @@
 -- For every text that is read with a file fault: what the fault's place leads to is a token of the text, and the refused entry was read from it.
 -- By the order of the checks; each fault's place lies in the entry at fault. Assumes nothing.
+use Rattle.std.specs.Prelude.{Err}
 use mathlib.Core.Path.{◌≡◌, refl}
 use mathlib.Core.Bool.{Bool, true, false}
 use mathlib.Core.List.{List, [], ◌∷◌}
@@ -30,7 +31,7 @@ use Rattle.score.specs.File.{bodies_right}
 use Rattle.score.specs.Encode.{text_bytes, counts_in, encode}
 use Rattle.score.proofs.EncodingPieces.{decode-fielded, encode-decided, entries}
 use Rattle.score.proofs.FaultPlaces.{Standing, fault-of, no_fault, need-fault, need-wrong, event-fault, item-fault}
-use Rattle.text.specs.declared.Transcript.TheVariants.{BadFile, NoRoom}
+use Rattle.text.specs.declared.TextError.TheVariants.{BadFile, NoRoom}
 use Rattle.text.specs.Said.{Reading, piece, unread, said}
 use Rattle.text.specs.Transcripts.{piece_right, judged, fault_at, answered, read_answer}
 use Rattle.text.proofs.FieldLaws.{said-fielded}
@@ -159,15 +160,15 @@ pub record FaultShown (t : List ℕ) (x : Fault) : Type 0 where
   pub says : said t ≡ piece what
   pub shown : Shown t what x (origin_of t (said t) (fault_row x).place)
 
-judged-fault : (made : List ℕ) (v : Check Fault) (x : Fault) → judged made v ≡ BadFile x → v ≡ refused x
+judged-fault : (made : List ℕ) (v : Check Fault) (x : Fault) → judged made v ≡ Err (BadFile x) → v ≡ refused x
 unfolding judged
 judged-fault made fine x e = let z : ◌≡◌ {A = ℕ} 0 1 = cc in absurd (omega arith)
 judged-fault made (refused y) x e = cc
 
-pub fault-shown : (room : ℕ) (t : List ℕ) (x : Fault) → read_answer room t ≡ BadFile x → FaultShown t x
+pub fault-shown : (room : ℕ) (t : List ℕ) (x : Fault) → read_answer room t ≡ Err (BadFile x) → FaultShown t x
 unfolding read_answer answered fault_at origin_of pick
 fault-shown room t x e = go (leb longest_score room) (said t) refl e where
-  go : (u : Bool) (r : Reading) → said t ≡ r → pick u (answered t r) NoRoom ≡ BadFile x → FaultShown t x
+  go : (u : Bool) (r : Reading) → said t ≡ r → pick u (answered t r) (Err NoRoom) ≡ Err (BadFile x) → FaultShown t x
   go true (piece p) says f = record { what = p; says = says; shown = rw says (right-shown t p says x (judged-fault (encode p) (piece_right p) x f)) }
   go true (unread at) says f = let z : ◌≡◌ {A = ℕ} 0 1 = cc in absurd (omega arith)
   go false r says f = let z : ◌≡◌ {A = ℕ} 0 1 = cc in absurd (omega arith)
@@ -184,7 +185,7 @@ shown-placed {t} (event n b w r k) = token-placed t k
 shown-placed {t} (item n b h l a s r w k) = token-placed t k
 shown-placed {t} (message n b w r k) = token-placed t k
 
-pub fault-in-text : (room : ℕ) (t : List ℕ) (x : Fault) → read_answer room t ≡ BadFile x → InText t (place_in_text t (fault_row x).place)
+pub fault-in-text : (room : ℕ) (t : List ℕ) (x : Fault) → read_answer room t ≡ Err (BadFile x) → InText t (place_in_text t (fault_row x).place)
 unfolding place_in_text
 fault-in-text room t x e = shown-placed (fault-shown room t x e).shown
 
@@ -200,5 +201,5 @@ not-text-left (event n b w r k) e = let z : ◌≡◌ {A = ℕ} 0 1 = cc in omeg
 not-text-left (item n b h l a s r w k) e = let z : ◌≡◌ {A = ℕ} 0 1 = cc in omega arith
 not-text-left (message n b w r k) e = let z : ◌≡◌ {A = ℕ} 0 1 = cc in omega arith
 
-pub never-text-left : (room : ℕ) (t : List ℕ) → read_answer room t ≡ BadFile TextLeft → ⊥
+pub never-text-left : (room : ℕ) (t : List ℕ) → read_answer room t ≡ Err (BadFile TextLeft) → ⊥
 never-text-left room t e = not-text-left (fault-shown room t TextLeft e).shown refl

@@ -1,5 +1,6 @@
 -- From the bodies to the file and its answer, in the code's own terms.
 -- Assumes nothing.
+use Rattle.std.specs.Prelude.{Result, Ok, Err}
 use mathlib.Core.Path.{◌≡◌, refl, sym, ◌∙◌}
 use mathlib.Core.List.{List}
 use Prim.Native.Nat.{ℕ, ◌-◌, ◌<◌, ◌≤◌}
@@ -30,8 +31,8 @@ use Rattle.score.proofs.EncodingPieces.{size-encode, counts-right, last-told}
 use Rattle.filing.specs.Pieces.{filed}
 use Rattle.filing.specs.Bodies.{Bodies, file_in, settled, Settled}
 use Rattle.text.specs.declared.Stage.TheVariants.{Start}
-use Rattle.text.specs.declared.Transcript.{Transcript}
-use Rattle.text.specs.declared.Transcript.TheVariants.{Made, NoRoom, BadText, BadFile}
+use Rattle.text.specs.declared.TextError.{TextError}
+use Rattle.text.specs.declared.TextError.TheVariants.{NoRoom, BadText, BadFile}
 use Rattle.text.specs.Grammar.{Script, done, more, fault, script}
 use Rattle.text.specs.Said.{piece_of, Reading, piece, unread, told, said}
 use Rattle.text.specs.Transcripts.{room_left, piece_right, judged, fault_at, answered, file_of, read_answer}
@@ -63,13 +64,13 @@ pub ruleset writes = (page-begun, write-asked, written-file, rules)
 -- ---- the file's answer
 
 module _ (f m m' : List ℕ) (v : Verdict) (a : Settled f m m' v) where
-  pub settle-refused : (x : Fault) → v ≡ Refused x → Settles f m m' (BadFile x)
+  pub settle-refused : (x : Fault) → v ≡ Refused x → Settles f m m' (Err (BadFile x))
   unfolding judged room_left settled
   settle-refused x p =
       let z = verdict-refused (checked f) v x a.verdict p in
       record { answer = rw z; left = rw z at a.left }
 
-  pub settle-made : v ≡ Fine → Settles f m m' (Made (length f))
+  pub settle-made : v ≡ Fine → Settles f m m' (Ok (length f))
   unfolding judged room_left settled
   settle-made p =
       let z = verdict-fine (checked f) v a.verdict p in
@@ -81,7 +82,7 @@ module _ (t : List ℕ) (c : Counts) (m : List ℕ) (asked : Sayable t c m) wher
   says-counts : counts_right (counts_in (piece_of (script Start t))) ≡ counts_right c
   says-counts = rw asked.counts
 
-  pub count-refused : (v : Verdict) (x : Fault) → v ≡ verdict_of (counts_right c) → v ≡ Refused x → Answers t m m (BadFile x)
+  pub count-refused : (v : Verdict) (x : Fault) → v ≡ verdict_of (counts_right c) → v ≡ Refused x → Answers t m m (Err (BadFile x))
   unfolding answered piece_right first_fault judged room_left
   count-refused v x e p =
       let z : counts_right (counts_in (piece_of (script Start t))) ≡ refused x = says-counts ∙ verdict-refused (counts_right c) v x e p in
@@ -109,7 +110,7 @@ module _ (t : List ℕ) (c : Counts) (m : List ℕ) (asked : Sayable t c m) wher
     fine-counts : counts_right (counts_in (piece_of (script Start t))) ≡ fine
     fine-counts = counts-right (counts_in (piece_of (script Start t))) (rw asked.counts at k)
 
-    pub file-told : (m' : List ℕ) (r : Transcript) → Settles (take size file') m m' r → Answers t m m' r
+    pub file-told : (m' : List ℕ) (r : Result ℕ TextError) → Settles (take size file') m m' r → Answers t m m' r
     unfolding answered piece_right first_fault file_of
     file-told m' r s =
         let f : take size file' ≡ encode (piece_of (script Start t)) = laid.front in
@@ -121,7 +122,7 @@ pub ruleset makes = (make-asked, put-room, file-told, length-take-le, rules)
 
 pub ruleset judges = (count-refused, counts-told, rules)
 
-pub place-told : (t : List ℕ) (at : ℕ) (p : Place) → p ≡ place_behind (take at t) → BadText p.line p.column ≡ fault_at (place_behind (take at t))
+pub place-told : (t : List ℕ) (at : ℕ) (p : Place) → p ≡ place_behind (take at t) → Err (BadText p.line p.column) ≡ fault_at (place_behind (take at t))
 unfolding fault_at
 place-told t at p e = rw e
 
@@ -136,11 +137,11 @@ unread-within size at p (more l s) e = unread-within size at p s e
 unread-within size at p (fault left) e = let z : size - length left ≡ at = cc in omega arith
 
 module _ (t m : List ℕ) where
-  pub read_short : length m < longest_score → NoRoom ≡ read_answer (length m) t
+  pub read_short : length m < longest_score → Err NoRoom ≡ read_answer (length m) t
   unfolding read_answer pick
   read_short p = rw (lt-leb longest_score (length m) p)
 
-  pub left-short : m ≡ room_left NoRoom (file_of (said t)) m
+  pub left-short : m ≡ room_left (Err NoRoom) (file_of (said t)) m
   unfolding room_left
   left-short = refl
 
@@ -157,11 +158,11 @@ module _ (t m : List ℕ) where
       unfolding said
       fault-within = unread-within (length t) at (piece_of (script Start t)) (script Start t) is-unread
 
-      pub read-fault : (r : Transcript) → longest_score ≤ length m → r ≡ fault_at (place_behind (take at t)) → r ≡ read_answer (length m) t
+      pub read-fault : (r : Result ℕ TextError) → longest_score ≤ length m → r ≡ fault_at (place_behind (take at t)) → r ≡ read_answer (length m) t
       unfolding read_answer pick answered
       read-fault r p q = rw (le-leb longest_score (length m) p, is-unread) q
 
-      pub left-fault : (r : Transcript) → r ≡ fault_at (place_behind (take at t)) → m ≡ room_left r (file_of (said t)) m
+      pub left-fault : (r : Result ℕ TextError) → r ≡ fault_at (place_behind (take at t)) → m ≡ room_left r (file_of (said t)) m
       unfolding room_left fault_at
       left-fault r q = rw q
 
@@ -172,7 +173,7 @@ module _ (t m : List ℕ) where
       pub read_asked : longest_score ≤ length m → Sayable t c m
       read_asked p = record { balanced = counted-balanced t c told-counts; says = counted-said t c told-counts; counts = counts-said t c told-counts; room = p }
 
-  module _ (m' : List ℕ) (r : Transcript) (a : Answers t m m' r) where
+  module _ (m' : List ℕ) (r : Result ℕ TextError) (a : Answers t m m' r) where
     pub read_told : longest_score ≤ length m → r ≡ read_answer (length m) t
     unfolding read_answer pick
     read_told p = rw (le-leb longest_score (length m) p) a.answer

@@ -1,5 +1,5 @@
 -- What the second pass asks, and what it leaves: the bodies of the file of a text's lines.
-use Rattle.std.specs.Prelude.{ℕ, ◌+◌, ◌*◌, ◌<◌, ◌≤◌, ◌≡◌, List, length, take, drop}
+use Rattle.std.specs.Prelude.{ℕ, ◌+◌, ◌*◌, ◌<◌, ◌≤◌, ◌≡◌, List, length, take, drop, Result}
 use Rattle.tokens.specs.Beats.{field}
 use Rattle.contents.specs.declared.Counts.{Counts}
 use Rattle.contents.specs.Limits.{event_size, item_size, message_size, most_events, longest_score}
@@ -10,7 +10,7 @@ use Rattle.filing.specs.Bodies.{PageRoom, ListRoom}
 use Rattle.script.specs.Balanced.{Balanced}
 use Rattle.text.specs.declared.Stage.TheVariants.{Start, Listing}
 use Rattle.text.specs.Grammar.{script}
-use Rattle.text.specs.declared.Transcript.{Transcript}
+use Rattle.text.specs.declared.TextError.{TextError}
 use Rattle.text.specs.Said.{labels_of, durations_of, items_of, piece_of, piece, said}
 use Rattle.text.specs.Transcripts.{judged, answered, room_left, file_of}
 use Rattle.reader.specs.Turns.{Turnable}
@@ -68,7 +68,7 @@ pub record Writable (t : List ℕ) (c : Counts) (out : List ℕ) : Type 0 where
 -- ---- the answer
 
 -- What is told of a file, and what then stands in the room.
-pub record Settles (f m new : List ℕ) (r : Transcript) : Type 0 where
+pub record Settles (f m new : List ℕ) (r : Result ℕ TextError) : Type 0 where
   pub answer : r ≡ judged f (checked f)
   pub left : new ≡ room_left r f m
 
@@ -80,6 +80,6 @@ pub record Sayable (t : List ℕ) (c : Counts) (m : List ℕ) : Type 0 where
   pub room : longest_score ≤ length m
 
 -- What is told of it, and what then stands in the room.
-pub record Answers (t m new : List ℕ) (r : Transcript) : Type 0 where
+pub record Answers (t m new : List ℕ) (r : Result ℕ TextError) : Type 0 where
   pub answer : r ≡ answered t (said t)
   pub left : new ≡ room_left r (file_of (said t)) m

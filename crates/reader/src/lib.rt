@@ -9,7 +9,7 @@ ghost use Rattle.text.specs.Transcripts.{read_answer, room_left, file_of};
 use contents::limits::LONGEST_SCORE;
 use making::{fault, judge};
 use script::{Tally, tally_text};
-use text::Transcript;
+use text::TextError;
 
 mod listing;
 mod making;
@@ -17,12 +17,12 @@ mod paging;
 mod turns;
 
 // Reads a text and puts the file of what it says at the front of the room.
-pub fn read_text(text: &[u8], room: &mut [u8]) -> Transcript
+pub fn read_text(text: &[u8], room: &mut [u8]) -> Result<usize, TextError>
     ensures value { result ≡ read_answer (length room.old) text.now }
     ensures room_after { room.new ≡ room_left result (file_of (said text.now)) room.old }
 {
     if room.len() < LONGEST_SCORE {
-        return Transcript::NoRoom;
+        return Err(TextError::NoRoom);
     }
     let found = tally_text(text);
     match found {

@@ -16,7 +16,7 @@ use crate::paging::fill_page;
 use contents::limits::LONGEST_SCORE;
 use contents::{Counts, Verdict, check_counts};
 use filing::{join, settle_file};
-use text::Transcript;
+use text::TextError;
 use tokens::place_behind;
 
 // The rooms of a file's bodies.
@@ -43,19 +43,19 @@ fn write_file(text: &[u8], c: Counts, out: &mut [u8]) -> usize
 }
 
 // The file in the room, where it is right.
-fn settle(file: &[u8], room: &mut [u8]) -> Transcript
+fn settle(file: &[u8], room: &mut [u8]) -> Result<usize, TextError>
     requires { length file.now ≤ length room.old }
     ensures { Settles file.now room.old room.new result }
 {
     let settled = settle_file(file, room);
     match settled {
-        Verdict::Fine => Transcript::Made { size: file.len() },
-        Verdict::Refused(fault) => Transcript::BadFile { fault },
+        Verdict::Fine => Ok(file.len()),
+        Verdict::Refused(fault) => Err(TextError::BadFile { fault }),
     }
 }
 
 // A text whose counts are right: its file is made elsewhere, and the room is touched only where it is right.
-fn make(text: &[u8], c: Counts, file: &mut [u8], room: &mut [u8]) -> Transcript
+fn make(text: &[u8], c: Counts, file: &mut [u8], room: &mut [u8]) -> Result<usize, TextError>
     requires { Sayable text.now c room.old × Counted c × (longest_score ≤ length file.old) }
     ensures { Answers text.now room.old room.new result }
 {
@@ -64,7 +64,7 @@ fn make(text: &[u8], c: Counts, file: &mut [u8], room: &mut [u8]) -> Transcript
 }
 
 // A text without a fault. "a text past a count limit then gets the 4 its file would"
-pub fn judge(text: &[u8], c: Counts, room: &mut [u8]) -> Transcript
+pub fn judge(text: &[u8], c: Counts, room: &mut [u8]) -> Result<usize, TextError>
     requires { Sayable text.now c room.old }
     ensures { Answers text.now room.old room.new result }
 {
@@ -74,18 +74,18 @@ pub fn judge(text: &[u8], c: Counts, room: &mut [u8]) -> Transcript
             let mut file = [0; LONGEST_SCORE];
             make(text, c, &mut file, room)
         }
-        Verdict::Refused(fault) => Transcript::BadFile { fault },
+        Verdict::Refused(fault) => Err(TextError::BadFile { fault }),
     }
 }
 
 // A text with its first fault at this byte.
-pub fn fault(text: &[u8], at: usize) -> Transcript
+pub fn fault(text: &[u8], at: usize) -> Result<usize, TextError>
     requires { at ≤ length text.now }
     ensures { result ≡ fault_at (place_behind (take at text.now)) }
 {
     let p = place_behind(&text[..at]);
-    Transcript::BadText {
+    Err(TextError::BadText {
         line: p.line,
         column: p.column,
-    }
+    })
 }

@@ -1,6 +1,6 @@
 -- The lines that tell people of a text that is refused: for a byte of its own, as `new.txt:12:7: refused 16: text against the grammar`; or for what its file would be, at what made
 -- the byte, as `new.txt:31:5: refused 23 at byte 120 of the file it would make: item 6, delay: an item's delay, above 5,040,000 grains (1,000 beats)`. A hint follows where there is one.
-use Rattle.std.specs.Prelude.{ℕ, List, [], ◌∷◌, ◌++◌}
+use Rattle.std.specs.Prelude.{ℕ, List, [], ◌∷◌, ◌++◌, Result, Err}
 use Rattle.ascii.specs.Words.{newline}
 use Rattle.ascii.specs.Decimals.{decimal}
 use Rattle.ascii.specs.Text.{bytes_of}
@@ -8,8 +8,8 @@ use Rattle.contents.specs.declared.Counts.{Counts}
 use Rattle.session.specs.declared.Refusal.{Refusal}
 use Rattle.session.specs.Replies.{refusal_row}
 use Rattle.tokens.specs.declared.Place.{Place}
-use Rattle.text.specs.declared.Transcript.{Transcript}
-use Rattle.text.specs.declared.Transcript.TheVariants.{NoRoom, BadText}
+use Rattle.text.specs.declared.TextError.{TextError}
+use Rattle.text.specs.declared.TextError.TheVariants.{NoRoom, BadText}
 use Rattle.text.specs.Replies.{transcript_row}
 use Rattle.hints.specs.declared.Hint.{Hint}
 use Rattle.hints.specs.declared.Hint.TheVariants.{Unhinted}
@@ -26,18 +26,18 @@ unfoldable pub spot_words : (name : List ℕ) → (line column : ℕ) → List �
 spot_words name l c = name ++ ((bytes_of ":" ++ decimal l) ++ (bytes_of ":" ++ decimal c))
 
 -- That it is refused, with the row's number and words, and the hint.
-unfoldable pub told_end : Transcript → Hint → List ℕ
+unfoldable pub told_end : Result ℕ TextError → Hint → List ℕ
 told_end t h = bytes_of ": " ++ (transcript_words t ++ (hint_words h ++ (newline ∷ [])))
 
-unfoldable pub told_words : Transcript → Hint → List ℕ
+unfoldable pub told_words : Result ℕ TextError → Hint → List ℕ
 told_words t h = (bytes_of ": refused " ++ decimal (transcript_row t).number) ++ told_end t h
 
 unfoldable pub misread_line : (name : List ℕ) → (line column : ℕ) → Hint → List ℕ
-misread_line name l c h = spot_words name l c ++ told_words (BadText l c) h
+misread_line name l c h = spot_words name l c ++ told_words (Err (BadText l c)) h
 
 -- A room too short has no place in the text, and no hint.
 unfoldable pub room_line : (name : List ℕ) → List ℕ
-room_line name = name ++ told_words NoRoom Unhinted
+room_line name = name ++ told_words (Err NoRoom) Unhinted
 
 -- Room for each: the numbers have at most 20 digits.
 abbrev pub spot_room : ℕ

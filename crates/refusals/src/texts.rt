@@ -2,7 +2,7 @@
 ghost use Rattle.std.specs.Prelude.{◌+◌, ◌≤◌, length};
 ghost use Rattle.ascii.specs.Laying.{Laid};
 ghost use Rattle.hints.specs.Hints.{hint_room};
-ghost use Rattle.text.specs.declared.Transcript.TheVariants.{BadText};
+ghost use Rattle.text.specs.declared.TextError.TheVariants.{BadText};
 ghost use Rattle.refusals.specs.Texts.{spot_words, told_end, told_words, misread_line, room_line, spot_room, told_room, refused_number, unmade_words, refused_end, refused_file, unmade_line, misfit_line, number_room, unmade_room, end_room, refused_room, text_line_room};
 
 use crate::entries::{COLON, put_named};
@@ -11,7 +11,7 @@ use ascii::{NEWLINE, put_byte, put_bytes};
 use contents::{Counts, entry_at};
 use hints::{Hint, put_hint};
 use session::{Refusal, refusal_row};
-use text::{Transcript, replied_text};
+use text::{TextError, replied_text};
 use tokens::Place;
 use wording::{put_counted, put_text_words, put_words};
 
@@ -26,7 +26,7 @@ fn put_spot(out: &mut [u8], name: &[u8], line: usize, column: usize) -> usize
 }
 
 // The words of what came of a text, the hint, and the line's end.
-fn put_told_end(out: &mut [u8], at: usize, t: Transcript, h: Hint) -> usize
+fn put_told_end(out: &mut [u8], at: usize, t: Result<usize, TextError>, h: Hint) -> usize
     requires { at + end_room + hint_room ≤ length out.old }
     ensures { Laid out.old at (told_end t h) out.new result }
 {
@@ -37,7 +37,7 @@ fn put_told_end(out: &mut [u8], at: usize, t: Transcript, h: Hint) -> usize
 }
 
 // That it is refused, behind the first `at` bytes.
-fn put_told(out: &mut [u8], at: usize, t: Transcript, h: Hint) -> usize
+fn put_told(out: &mut [u8], at: usize, t: Result<usize, TextError>, h: Hint) -> usize
     requires { at + told_room ≤ length out.old }
     ensures { Laid out.old at (told_words t h) out.new result }
 {
@@ -51,7 +51,7 @@ pub fn misread_line(out: &mut [u8], name: &[u8], line: usize, column: usize, h: 
     ensures { Laid out.old 0 (misread_line name.now line column h) out.new result }
 {
     let at = put_spot(out, name, line, column);
-    put_told(out, at, Transcript::BadText { line, column }, h)
+    put_told(out, at, Err(TextError::BadText { line, column }), h)
 }
 
 // The line of a room too short, from the front of `out`. Answers its length.
@@ -60,7 +60,7 @@ pub fn room_line(out: &mut [u8], name: &[u8]) -> usize
     ensures { Laid out.old 0 (room_line name.now) out.new result }
 {
     let at = put_bytes(out, 0, name);
-    put_told(out, at, Transcript::NoRoom, Hint::Unhinted)
+    put_told(out, at, Err(TextError::NoRoom), Hint::Unhinted)
 }
 
 // The number of a refusal, behind the first `at` bytes.

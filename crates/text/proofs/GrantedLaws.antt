@@ -1,5 +1,6 @@
 -- A text whose reading is granted says a lawful piece, and the file that it makes is the file of this piece. Because nothing of it is lost in the file, what the file's
 -- check finds holds of the piece itself. Assumes nothing.
+use Rattle.std.specs.Prelude.{Ok, Err}
 use mathlib.Core.Path.{◌≡◌, refl, sym, ap, ◌∙◌}
 use mathlib.Core.Bool.{Bool, true, false}
 use mathlib.Core.List.{List}
@@ -17,7 +18,7 @@ use Rattle.score.specs.Piece.{Piece, decode}
 use Rattle.score.specs.File.{Accepted}
 use Rattle.score.specs.Encode.{encode, Lawful}
 use Rattle.score.proofs.EncodingPieces.{fielded-lawful, decode-encode, encode-accepted, encode-bytes}
-use Rattle.text.specs.declared.Transcript.TheVariants.{Made, NoRoom}
+use Rattle.text.specs.declared.TextError.TheVariants.{NoRoom}
 use Rattle.text.specs.Said.{Reading, piece, unread, said}
 use Rattle.text.specs.Written.{written}
 use Rattle.text.specs.Transcripts.{piece_right, judged, fault_at, answered, file_of, read_answer}
@@ -35,18 +36,18 @@ record Grants (t : List ℕ) (n : ℕ) : Type 0 where
   lawful : Lawful score
   size : length (encode score) ≡ n
 
-judged-grants : (t : List ℕ) (n : ℕ) (p : Piece) → said t ≡ piece p → (v : Check Fault) → piece_right p ≡ v → judged (encode p) v ≡ Made n → Grants t n
+judged-grants : (t : List ℕ) (n : ℕ) (p : Piece) → said t ≡ piece p → (v : Check Fault) → piece_right p ≡ v → judged (encode p) v ≡ Ok n → Grants t n
 unfolding judged
 judged-grants t n p e fine r m = record { score = p; says = e; lawful = right-lawful t p e r; size = cc }
 judged-grants t n p e (refused x) r m = let z : ◌≡◌ {A = ℕ} 0 1 = cc in absurd (omega arith)
 
-answered-grants : (t : List ℕ) (n : ℕ) (r : Reading) → said t ≡ r → answered t r ≡ Made n → Grants t n
+answered-grants : (t : List ℕ) (n : ℕ) (r : Reading) → said t ≡ r → answered t r ≡ Ok n → Grants t n
 unfolding answered fault_at
 answered-grants t n (piece p) e m = judged-grants t n p e (piece_right p) refl m
 answered-grants t n (unread at) e m = let z : ◌≡◌ {A = ℕ} 0 1 = cc in absurd (omega arith)
 
-module _ (room : ℕ) (t : List ℕ) (n : ℕ) (granted : read_answer room t ≡ Made n) where
-  roomed : (b : Bool) → leb longest_score room ≡ b → pick b (answered t (said t)) NoRoom ≡ Made n → (longest_score ≤ room) × Grants t n
+module _ (room : ℕ) (t : List ℕ) (n : ℕ) (granted : read_answer room t ≡ Ok n) where
+  roomed : (b : Bool) → leb longest_score room ≡ b → pick b (answered t (said t)) (Err NoRoom) ≡ Ok n → (longest_score ≤ room) × Grants t n
   unfolding pick
   roomed true e m = (leb-true _ _ e, answered-grants t n (said t) refl m)
   roomed false e m = let z : ◌≡◌ {A = ℕ} 0 1 = cc in absurd (omega arith)

@@ -1,5 +1,6 @@
 -- Reading is a function of a text's meaning: blanks and comments between tokens change nothing but line and column.
 -- Assumes nothing.
+use Rattle.std.specs.Prelude.{Result, Ok, Err}
 use mathlib.Core.Path.{◌≡◌, refl, sym, ap, ◌∙◌}
 use mathlib.Core.Bool.{Bool, true, false}
 use mathlib.Core.List.{List, [], ◌∷◌}
@@ -15,8 +16,8 @@ use Rattle.contents.specs.Limits.{longest_score}
 use Rattle.score.specs.Piece.{Piece}
 use Rattle.text.specs.declared.Stage.{Stage}
 use Rattle.text.specs.declared.Stage.TheVariants.{Start}
-use Rattle.text.specs.declared.Transcript.{Transcript}
-use Rattle.text.specs.declared.Transcript.TheVariants.{Made, NoRoom, BadText, BadFile}
+use Rattle.text.specs.declared.TextError.{TextError}
+use Rattle.text.specs.declared.TextError.TheVariants.{NoRoom, BadText, BadFile}
 use Rattle.text.specs.Grammar.{Line, heading, message, event, part, send, group, close, after, is_over, Script, done, more, fault, follow, script}
 use Rattle.text.specs.Said.{labels_of, durations_of, within, items_of, piece_of, Reading, piece, unread, told, said}
 use Rattle.text.specs.Transcripts.{room_left, fault_at, answered, file_of, read_answer}
@@ -175,12 +176,12 @@ answered-same t u (piece p) (unread n) e = let z : ◌≡◌ {A = ℕ} 0 1 = cc 
 answered-same t u (unread m) (piece q) e = let z : ◌≡◌ {A = ℕ} 0 1 = cc in absurd (omega arith)
 answered-same t u (unread m) (unread n) e = refl
 
-room-same : (x : Transcript) (made m : List ℕ) → room_left (placeless x) made m ≡ room_left x made m
+room-same : (x : Result ℕ TextError) (made m : List ℕ) → room_left (placeless x) made m ≡ room_left x made m
 unfolding room_left placeless
-room-same (Made n) made m = refl
-room-same NoRoom made m = refl
-room-same (BadText l c) made m = refl
-room-same (BadFile x) made m = refl
+room-same (Ok n) made m = refl
+room-same (Err NoRoom) made m = refl
+room-same (Err (BadText l c)) made m = refl
+room-same (Err (BadFile x)) made m = refl
 
 -- ---- texts that differ in blanks and comments only
 
@@ -197,7 +198,7 @@ module _ (t u : List ℕ) (relaid : squeezed t ≡ squeezed u) where
   pub same_answer : (room : ℕ) → placeless (read_answer room t) ≡ placeless (read_answer room u)
   unfolding read_answer pick
   same_answer room = go (leb longest_score room) where
-    go : (b : Bool) → placeless (pick b (answered t (said t)) NoRoom) ≡ placeless (pick b (answered u (said u)) NoRoom)
+    go : (b : Bool) → placeless (pick b (answered t (said t)) (Err NoRoom)) ≡ placeless (pick b (answered u (said u)) (Err NoRoom))
     go true = answered-same t u (said t) (said u) same-meaning
     go false = refl
 

@@ -1,5 +1,4 @@
 -- Laws of the text form.
-mod ReplySteps
 pub mod WordLaws
 pub mod BeatsLaws
 pub mod LineSizes

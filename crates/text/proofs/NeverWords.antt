@@ -1,5 +1,6 @@
 -- Which numbers come from reading a text, and that 20 and 21 never do: every kind and word of its items is the grammar's, and its file's contents are right.
 -- Assumes nothing.
+use Rattle.std.specs.Prelude.{Result, Err}
 use mathlib.Core.Path.{◌≡◌, refl}
 use mathlib.Core.Bool.{Bool, true, false}
 use mathlib.Core.List.{List, [], ◌∷◌}
@@ -24,8 +25,8 @@ use Rattle.score.specs.Encode.{counts_in, encode}
 use Rattle.score.specs.File.{checked}
 use Rattle.score.proofs.EncodingPieces.{decode-fielded, encode-decided}
 use Rattle.score.proofs.BodyFaults.{Finds, no_fault, some_fault, first_of, first_then, need-of, need-kept, none_left, Told, ToldRule, item_of, Breaks, none-breaks, one-breaks, items-of, counts_of, bodies_of}
-use Rattle.text.specs.declared.Transcript.{Transcript}
-use Rattle.text.specs.declared.Transcript.TheVariants.{NoRoom}
+use Rattle.text.specs.declared.TextError.{TextError}
+use Rattle.text.specs.declared.TextError.TheVariants.{NoRoom}
 use Rattle.text.specs.declared.Stage.TheVariants.{Start}
 use Rattle.text.specs.Grammar.{Script, script}
 use Rattle.text.specs.Said.{items_of, piece_of, Reading, piece, unread, said}
@@ -117,7 +118,7 @@ unfolding answered fault_at transcript_row
 answered-number t (piece p) e = judged-number (encode p) (piece_right p) (right-finds t p e)
 answered-number t (unread at) e = bad_text
 
-room-number : (b : Bool) (r : Transcript) → OfText (transcript_row r).number → OfText (transcript_row (pick b r NoRoom)).number
+room-number : (b : Bool) (r : Result ℕ TextError) → OfText (transcript_row r).number → OfText (transcript_row (pick b r (Err NoRoom))).number
 unfolding pick transcript_row
 room-number true r h = h
 room-number false r h = short_room

@@ -1,5 +1,6 @@
 -- "Reading what was written gives the same bytes for every accepted file; the written text is never refused."
 -- The lines of a lawful piece are read back as they stand, and say the piece. Assumes nothing.
+use Rattle.std.specs.Prelude.{Ok}
 use mathlib.Core.Path.{◌≡◌, refl, ap, ◌∙◌}
 use mathlib.Core.Bool.{true}
 use mathlib.Core.List.{List, [], ◌∷◌, ◌++◌, append-nil}
@@ -29,7 +30,6 @@ use Rattle.score.specs.Encode.{counts_in, encode, labels_right, Lawful}
 use Rattle.score.proofs.EncodingFiles.{decode-lawful, encode-decode}
 use Rattle.score.proofs.EncodingPieces.{encode-accepted}
 use Rattle.text.specs.declared.Stage.TheVariants.{Start, Listing}
-use Rattle.text.specs.declared.Transcript.TheVariants.{Made}
 use Rattle.text.specs.Words.{any_number}
 use Rattle.text.specs.Grammar.{Line, further, after, script}
 use Rattle.text.specs.Said.{labels_of, durations_of, items_of, piece_of, piece, told, said}
@@ -147,7 +147,7 @@ unfolding piece_right first_fault
 piece-right p l = rw (l.counts, (encode-accepted p l).fine)
 
 -- It is granted, with the size of the piece's file.
-pub written-made : (room : ℕ) (p : Piece) → longest_score ≤ room → Lawful p → read_answer room (written p) ≡ Made (length (encode p))
+pub written-made : (room : ℕ) (p : Piece) → longest_score ≤ room → Lawful p → read_answer room (written p) ≡ Ok (length (encode p))
 unfolding read_answer answered judged pick
 written-made room p q l = rw (le-leb longest_score room q, read-written p l, piece-right p l)
 
@@ -162,5 +162,5 @@ module _ (f : List ℕ) (bytes : (i : ℕ) → get_or f i 0 < 256) (accepted : A
   reading-written = rw (written-never-refused f accepted) (encode-decode f bytes accepted)
 
   -- "the written text is never refused": it is read into any room that is long enough, with the file's size.
-  pub written-granted : (room : ℕ) → longest_score ≤ room → read_answer room (written (decode f)) ≡ Made (length f)
-  written-granted room q = written-made room (decode f) q (decode-lawful f accepted) ∙ ap (λ (g : List ℕ). Made (length g)) (encode-decode f bytes accepted)
+  pub written-granted : (room : ℕ) → longest_score ≤ room → read_answer room (written (decode f)) ≡ Ok (length f)
+  written-granted room q = written-made room (decode f) q (decode-lawful f accepted) ∙ ap (λ (g : List ℕ). Ok (length g)) (encode-decode f bytes accepted)

@@ -1,12 +1,12 @@
 -- A text without its layout: what is the same in two texts that differ in blanks and comments only, and what such texts have in common when they are read.
-use Rattle.std.specs.Prelude.{ℕ, List, [], ◌∷◌, eqb}
+use Rattle.std.specs.Prelude.{ℕ, List, [], ◌∷◌, eqb, Result, Ok, Err}
 use Rattle.base.specs.Tests.{pick}
 use Rattle.ascii.specs.Words.{newline, space}
 use Rattle.tokens.specs.Bytes.{quote, hash, backslash, is_blank}
 use Rattle.tokens.specs.Tokens.{blanks}
 use Rattle.score.specs.Piece.{Piece}
-use Rattle.text.specs.declared.Transcript.{Transcript}
-use Rattle.text.specs.declared.Transcript.TheVariants.{Made, NoRoom, BadText, BadFile}
+use Rattle.text.specs.declared.TextError.{TextError}
+use Rattle.text.specs.declared.TextError.TheVariants.{NoRoom, BadText, BadFile}
 use Rattle.text.specs.Said.{Reading, piece, unread}
 
 -- ---- a text with one space for its blanks
@@ -53,8 +53,8 @@ meaning (piece p) = meant p
 meaning (unread at) = nonsense
 
 -- All that is answered but the line and column of a 16.
-unfoldable pub placeless : Transcript → Transcript
-placeless (Made n) = Made n
-placeless NoRoom = NoRoom
-placeless (BadText l c) = BadText 0 0
-placeless (BadFile x) = BadFile x
+unfoldable pub placeless : Result ℕ TextError → Result ℕ TextError
+placeless (Ok n) = Ok n
+placeless (Err NoRoom) = Err NoRoom
+placeless (Err (BadText l c)) = Err (BadText 0 0)
+placeless (Err (BadFile x)) = Err (BadFile x)

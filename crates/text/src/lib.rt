@@ -1,8 +1,8 @@
 // The text form of a score: what a text says, and the text of a piece. The definitions stand in specs/; what runs here says only a reply's numbers.
 #![tactic(auto)]
 
-ghost use Rattle.std.specs.Prelude.{◌≡◌};
-ghost use Rattle.text.specs.declared.Transcript.TheVariants.{BadFile};
+ghost use Rattle.std.specs.Prelude.{◌≡◌, Err};
+ghost use Rattle.text.specs.declared.TextError.TheVariants.{BadFile};
 ghost use Rattle.text.specs.Replies.{transcript_row};
 
 use contents::{Fault, Verdict, replied};
@@ -20,17 +20,23 @@ pub enum Stage {
     Playing { depth: usize },
 }
 
-// What comes of a text that is read into a file, or of a file that is written as text.
+// Why a text isn't read into a file, or a file isn't written as text. Where it is, so many bytes stand in the room.
 #[derive(Clone, Copy)]
-pub enum Transcript {
-    // So many bytes stand in the room.
-    Made { size: usize },
+pub enum TextError {
     // The room is too short.
     NoRoom,
     // The first byte that can't be.
     BadText { line: usize, column: usize },
     // The file is refused: of a text, the one that it would make.
     BadFile { fault: Fault },
+}
+
+impl From<Fault> for TextError {
+    ghost from_gives = { λ x e. e ≡ BadFile x };
+
+    fn from(fault: Fault) -> TextError {
+        TextError::BadFile { fault }
+    }
 }
 
 // A reply's number, its place in the file, its line and column in the text, and how many bytes were written.
@@ -57,8 +63,9 @@ fn row(number: usize, line: usize, column: usize, size: usize) -> TextReply
 }
 
 // The row of a file that is refused.
+#[tactic(auto, unfolding(crate::specs::Replies::transcript_row, contents::specs::Replies::reply_of))]
 fn file_row(fault: Fault) -> TextReply
-    ensures { result ≡ transcript_row (BadFile fault) }
+    ensures { result ≡ transcript_row (Err (BadFile fault)) }
 {
     let r = replied(Verdict::Refused(fault));
     TextReply {
@@ -71,13 +78,14 @@ fn file_row(fault: Fault) -> TextReply
 }
 
 // The reply's numbers.
-pub fn replied_text(t: Transcript) -> TextReply
+#[tactic(auto, unfolding(crate::specs::Replies::transcript_row))]
+pub fn replied_text(t: Result<usize, TextError>) -> TextReply
     ensures { result ≡ transcript_row t }
 {
     match t {
-        Transcript::Made { size } => row(0, 0, 0, size),
-        Transcript::NoRoom => row(2, 0, 0, 0),
-        Transcript::BadText { line, column } => row(16, line, column, 0),
-        Transcript::BadFile { fault } => file_row(fault),
+        Ok(size) => row(0, 0, 0, size),
+        Err(TextError::NoRoom) => row(2, 0, 0, 0),
+        Err(TextError::BadText { line, column }) => row(16, line, column, 0),
+        Err(TextError::BadFile { fault }) => file_row(fault),
     }
 }

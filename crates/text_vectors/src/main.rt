@@ -8,7 +8,7 @@ ghost use Rattle.std.specs.Prelude.{◌<◌, ◌≤◌};
 use std::fs::File;
 use std::os::fd::AsRawFd;
 use std::rt::HostRuntime;
-use text::{TextReply, Transcript};
+use text::{TextError, TextReply};
 use tokens::Place;
 
 const OUT: i32 = 1;
@@ -61,7 +61,7 @@ fn print_reply(r: TextReply, room: &[u8]) {
 }
 
 // What comes of the input, in so much of the room.
-fn transcribe(write: bool, input: &[u8], room: &mut [u8]) -> Transcript {
+fn transcribe(write: bool, input: &[u8], room: &mut [u8]) -> Result<usize, TextError> {
     if write {
         return writer::write_text(input, room);
     }

@@ -1,5 +1,6 @@
 -- What is said, case by case.
 -- Assumes nothing.
+use Rattle.std.specs.Prelude.{Result, Ok, Err}
 use mathlib.Core.Path.{◌≡◌, sym, ◌∙◌}
 use mathlib.Core.List.{List}
 use Prim.Native.Nat.{ℕ, ◌≤◌}
@@ -16,8 +17,8 @@ use Rattle.tokens.specs.declared.Place.{Place}
 use Rattle.session.specs.Replies.{refusal_row}
 use Rattle.session.specs.declared.Refusal.TheVariants.{File}
 use Rattle.streams.specs.declared.ending.Ending.{Ending}
-use Rattle.text.specs.declared.Transcript.{Transcript}
-use Rattle.text.specs.declared.Transcript.TheVariants.{Made, NoRoom, BadText, BadFile}
+use Rattle.text.specs.declared.TextError.{TextError}
+use Rattle.text.specs.declared.TextError.TheVariants.{NoRoom, BadText, BadFile}
 use Rattle.text.specs.Said.{said}
 use Rattle.script.specs.declared.Tally.{Tally}
 use Rattle.script.specs.declared.Tally.TheVariants.{Counted, Faulty}
@@ -71,34 +72,34 @@ pub lay-faulty : (o n name text : List ℕ) (r i c : ℕ) (t : Tally) (h : Hint)
 unfolding faulty_line
 lay-faulty o n name text r i c t h e f l = rw (← e, ← f) l
 
-module _ (o n name : List ℕ) (r : ℕ) (t : Transcript) where
+module _ (o n name : List ℕ) (r : ℕ) (t : Result ℕ TextError) where
   module _ (text : List ℕ) where
-    pub read-room : t ≡ NoRoom → Laid o 0 (room_line name) n r → Laid o 0 (read_line name text t) n r
+    pub read-room : t ≡ Err NoRoom → Laid o 0 (room_line name) n r → Laid o 0 (read_line name text t) n r
     unfolding read_line
     read-room e l = rw e l
 
-    pub read-text : (i c : ℕ) → t ≡ BadText i c → Laid o 0 (faulty_line name text i c) n r → Laid o 0 (read_line name text t) n r
+    pub read-text : (i c : ℕ) → t ≡ Err (BadText i c) → Laid o 0 (faulty_line name text i c) n r → Laid o 0 (read_line name text t) n r
     unfolding read_line
     read-text i c e l = rw e l
 
-    pub read-file : (x : Fault) → t ≡ BadFile x → Laid o 0 (unfit_line name text x) n r → Laid o 0 (read_line name text t) n r
+    pub read-file : (x : Fault) → t ≡ Err (BadFile x) → Laid o 0 (unfit_line name text x) n r → Laid o 0 (read_line name text t) n r
     unfolding read_line
     read-file x e l = rw e l
 
   module _ (file : List ℕ) where
-    pub write-room : t ≡ NoRoom → Laid o 0 (room_line name) n r → Laid o 0 (write_line name file t) n r
+    pub write-room : t ≡ Err NoRoom → Laid o 0 (room_line name) n r → Laid o 0 (write_line name file t) n r
     unfolding write_line
     write-room e l = rw e l
 
-    pub write-text : (i c : ℕ) → t ≡ BadText i c → Laid o 0 (misread_line name i c Unhinted) n r → Laid o 0 (write_line name file t) n r
+    pub write-text : (i c : ℕ) → t ≡ Err (BadText i c) → Laid o 0 (misread_line name i c Unhinted) n r → Laid o 0 (write_line name file t) n r
     unfolding write_line
     write-text i c e l = rw e l
 
-    pub write-file : (x : Fault) → t ≡ BadFile x → Laid o 0 (refusal_line name file (File x)) n r → Laid o 0 (write_line name file t) n r
+    pub write-file : (x : Fault) → t ≡ Err (BadFile x) → Laid o 0 (refusal_line name file (File x)) n r → Laid o 0 (write_line name file t) n r
     unfolding write_line
     write-file x e l = rw e l
 
-module _ (o name : List ℕ) (t : Transcript) (k : ℕ) (e : t ≡ Made k) where
+module _ (o name : List ℕ) (t : Result ℕ TextError) (k : ℕ) (e : t ≡ Ok k) where
   pub read_made : (text : List ℕ) → Laid o 0 (read_line name text t) o 0
   unfolding read_line
   read_made text = rw e (laid-nothing o 0 (omega arith))
@@ -113,7 +114,7 @@ pub ruleset writing = (write-made, write-room, write-text, write-file, rules)
 
 -- ---- endings
 
-pub ending-case : (t u : Transcript) (r : Ending) → t ≡ u → r ≡ ending_of u → r ≡ ending_of t
+pub ending-case : (t u : Result ℕ TextError) (r : Ending) → t ≡ u → r ≡ ending_of u → r ≡ ending_of t
 ending-case t u r e p = rw e p
 
 pub ruleset endings = (ending-case, rules)

@@ -1,13 +1,13 @@
 -- What `read` says of a text and `write` of a file, and how they end.
-use Rattle.std.specs.Prelude.{ℕ, List, []}
+use Rattle.std.specs.Prelude.{ℕ, List, [], Result, Ok, Err}
 use Rattle.contents.specs.declared.Counts.{Counts}
 use Rattle.contents.specs.declared.Fault.{Fault}
 use Rattle.contents.specs.Replies.{fault_row}
 use Rattle.session.specs.declared.Refusal.TheVariants.{File}
 use Rattle.streams.specs.declared.ending.Ending.{Ending}
 use Rattle.streams.specs.declared.ending.Ending.TheVariants.{Done, Refused}
-use Rattle.text.specs.declared.Transcript.{Transcript}
-use Rattle.text.specs.declared.Transcript.TheVariants.{Made, NoRoom, BadText, BadFile}
+use Rattle.text.specs.declared.TextError.{TextError}
+use Rattle.text.specs.declared.TextError.TheVariants.{NoRoom, BadText, BadFile}
 use Rattle.text.specs.Said.{Reading, said}
 use Rattle.script.specs.declared.Tally.{Tally}
 use Rattle.script.specs.declared.Tally.TheVariants.{Counted, Faulty}
@@ -41,25 +41,25 @@ unfoldable pub unfit_line : (name text : List ℕ) → Fault → List ℕ
 unfit_line name t x = misfit_line name (place_in_text t (fault_row x).place) (counts_said (said t)) (File x) (fault_hint x)
 
 -- Nothing is said where it was granted.
-unfoldable pub read_line : (name text : List ℕ) → Transcript → List ℕ
-read_line name t (Made n) = []
-read_line name t NoRoom = room_line name
-read_line name t (BadText l c) = faulty_line name t l c
-read_line name t (BadFile x) = unfit_line name t x
+unfoldable pub read_line : (name text : List ℕ) → Result ℕ TextError → List ℕ
+read_line name t (Ok n) = []
+read_line name t (Err NoRoom) = room_line name
+read_line name t (Err (BadText l c)) = faulty_line name t l c
+read_line name t (Err (BadFile x)) = unfit_line name t x
 
-unfoldable pub write_line : (name file : List ℕ) → Transcript → List ℕ
-write_line name f (Made n) = []
-write_line name f NoRoom = room_line name
-write_line name f (BadText l c) = misread_line name l c Unhinted
-write_line name f (BadFile x) = refusal_line name f (File x)
+unfoldable pub write_line : (name file : List ℕ) → Result ℕ TextError → List ℕ
+write_line name f (Ok n) = []
+write_line name f (Err NoRoom) = room_line name
+write_line name f (Err (BadText l c)) = misread_line name l c Unhinted
+write_line name f (Err (BadFile x)) = refusal_line name f (File x)
 
 -- Room for any of these lines, without the name.
 abbrev pub line_room : ℕ
 line_room = 360
 
 -- "0 done, 1 refused"
-unfoldable pub ending_of : Transcript → Ending
-ending_of (Made n) = Done
-ending_of NoRoom = Refused
-ending_of (BadText l c) = Refused
-ending_of (BadFile x) = Refused
+unfoldable pub ending_of : Result ℕ TextError → Ending
+ending_of (Ok n) = Done
+ending_of (Err NoRoom) = Refused
+ending_of (Err (BadText l c)) = Refused
+ending_of (Err (BadFile x)) = Refused

@@ -14,7 +14,7 @@ use refusals::{misfit_line, misread_line, refusal_line, room_line};
 use script::{Tally, tally_text};
 use session::{Refusal, refusal_row};
 use streams::Ending;
-use text::Transcript;
+use text::TextError;
 pub use unfolds::{unfold_ending, unfold_line};
 
 mod unfolds;
@@ -73,45 +73,45 @@ fn put_unfit(out: &mut [u8], name: &[u8], text: &[u8], x: Fault) -> usize
 }
 
 // What `read` says of the text of this name, from the front of `out`: nothing where it was read. Answers its length.
-pub fn read_line(out: &mut [u8], name: &[u8], text: &[u8], t: Transcript) -> usize
+pub fn read_line(out: &mut [u8], name: &[u8], text: &[u8], t: Result<usize, TextError>) -> usize
     requires { line_room + length name.now ≤ length out.old }
     ensures { Laid out.old 0 (read_line name.now text.now t) out.new result }
 {
     match t {
-        Transcript::Made { size: _ } => 0,
-        Transcript::NoRoom => room_line(out, name),
-        Transcript::BadText { line, column } => put_faulty(out, name, text, line, column),
-        Transcript::BadFile { fault } => put_unfit(out, name, text, fault),
+        Ok(_) => 0,
+        Err(TextError::NoRoom) => room_line(out, name),
+        Err(TextError::BadText { line, column }) => put_faulty(out, name, text, line, column),
+        Err(TextError::BadFile { fault }) => put_unfit(out, name, text, fault),
     }
 }
 
 // What `write` says of the file of this name.
-pub fn write_line(out: &mut [u8], name: &[u8], file: &[u8], t: Transcript) -> usize
+pub fn write_line(out: &mut [u8], name: &[u8], file: &[u8], t: Result<usize, TextError>) -> usize
     requires { line_room + length name.now ≤ length out.old }
     ensures { Laid out.old 0 (write_line name.now file.now t) out.new result }
 {
     match t {
-        Transcript::Made { size: _ } => 0,
-        Transcript::NoRoom => room_line(out, name),
-        Transcript::BadText { line, column } => misread_line(
+        Ok(_) => 0,
+        Err(TextError::NoRoom) => room_line(out, name),
+        Err(TextError::BadText { line, column }) => misread_line(
             out,
             name,
             line,
             column,
             Hint::Unhinted,
         ),
-        Transcript::BadFile { fault } => refusal_line(out, name, file, Refusal::File(fault)),
+        Err(TextError::BadFile { fault }) => refusal_line(out, name, file, Refusal::File(fault)),
     }
 }
 
 // How either ends: done where something was made.
-pub fn ending_of(t: Transcript) -> Ending
+pub fn ending_of(t: Result<usize, TextError>) -> Ending
     ensures { result ≡ ending_of t }
 {
     match t {
-        Transcript::Made { size: _ } => Ending::Done,
-        Transcript::NoRoom => Ending::Refused,
-        Transcript::BadText { line: _, column: _ } => Ending::Refused,
-        Transcript::BadFile { fault: _ } => Ending::Refused,
+        Ok(_) => Ending::Done,
+        Err(TextError::NoRoom) => Ending::Refused,
+        Err(TextError::BadText { line: _, column: _ }) => Ending::Refused,
+        Err(TextError::BadFile { fault: _ }) => Ending::Refused,
     }
 }

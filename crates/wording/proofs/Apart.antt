@@ -1,5 +1,6 @@
 -- No two rows of the reply table have the same words: looked up in the list of all of them, a row's words are found at its own place.
 -- Assumes nothing.
+use Rattle.std.specs.Prelude.{Ok, Err}
 use mathlib.Core.Path.{◌≡◌, refl, sym, ap, ◌∙◌}
 use mathlib.Core.List.{List, [], ◌∷◌, map}
 use Prim.Native.Nat.{ℕ, zero, suc}
@@ -11,7 +12,7 @@ use Rattle.contents.specs.declared.ItemRule.{ItemRule}
 use Rattle.contents.specs.declared.ItemRule.TheVariants as rule
 use Rattle.session.specs.declared.Refusal.{Refusal}
 use Rattle.session.specs.declared.Refusal.TheVariants.{MemoryShort, RoomShort, File, BadTempo, BadGrace, NoSession, NoEvent, NotAfter, BadMillis, ClockFull}
-use Rattle.text.specs.declared.Transcript.TheVariants.{Made, NoRoom, BadText, BadFile}
+use Rattle.text.specs.declared.TextError.TheVariants.{NoRoom, BadText, BadFile}
 use Rattle.unfolding.specs.declared.Unfolding.TheVariants as unfolds
 use Rattle.wording.specs.declared.Row.{Row}
 use Rattle.wording.specs.declared.Row.TheVariants.{Call, Text, Unfold}
@@ -55,10 +56,10 @@ refusal_row_at ClockFull = 16
 
 unfoldable pub row_at : Row → ℕ
 row_at (Call x) = refusal_row_at x
-row_at (Text (Made n)) = 0
-row_at (Text NoRoom) = 3
-row_at (Text (BadText l c)) = 18
-row_at (Text (BadFile x)) = fault_row_at x
+row_at (Text (Ok n)) = 0
+row_at (Text (Err NoRoom)) = 3
+row_at (Text (Err (BadText l c))) = 18
+row_at (Text (Err (BadFile x))) = fault_row_at x
 row_at (Unfold (unfolds.Made n)) = 0
 row_at (Unfold unfolds.NoRoom) = 3
 row_at (Unfold (unfolds.BadExtended zero)) = 19
@@ -116,10 +117,10 @@ refusal-found ClockFull = refl
 words-found : (x : Row) → looked_up (row_words x) ≡ row_at x
 unfolding looked_up found_at reply_rows row_words row_at refusal_words transcript_words extended_words unfolding_words fault_words rule_words begins pick
 words-found (Call x) = refusal-found x
-words-found (Text (Made n)) = refl
-words-found (Text NoRoom) = refl
-words-found (Text (BadText l c)) = refl
-words-found (Text (BadFile x)) = fault-found x
+words-found (Text (Ok n)) = refl
+words-found (Text (Err NoRoom)) = refl
+words-found (Text (Err (BadText l c))) = refl
+words-found (Text (Err (BadFile x))) = fault-found x
 words-found (Unfold (unfolds.Made n)) = refl
 words-found (Unfold unfolds.NoRoom) = refl
 words-found (Unfold (unfolds.BadExtended zero)) = refl

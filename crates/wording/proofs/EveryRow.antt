@@ -1,5 +1,6 @@
 -- No reply of any call, none of a text and none of an extended score is without a row in the reply table: its row stands there, with its number and its words. And the numbers of the rows are those of document 01's table and of document 02.
 -- Assumes nothing.
+use Rattle.std.specs.Prelude.{Ok, Err}
 use mathlib.Core.Path.{◌≡◌, refl}
 use mathlib.Core.List.{List, [], ◌∷◌, map}
 use Prim.Native.Nat.{ℕ, zero, suc, ◌<◌}
@@ -13,7 +14,7 @@ use Rattle.contents.specs.declared.ItemRule.TheVariants as rule
 use Rattle.session.specs.Replies.{refusal_row}
 use Rattle.session.specs.declared.Refusal.{Refusal}
 use Rattle.session.specs.declared.Refusal.TheVariants.{MemoryShort, RoomShort, File, BadTempo, BadGrace, NoSession, NoEvent, NotAfter, BadMillis, ClockFull}
-use Rattle.text.specs.declared.Transcript.TheVariants.{Made, NoRoom, BadText, BadFile}
+use Rattle.text.specs.declared.TextError.TheVariants.{NoRoom, BadText, BadFile}
 use Rattle.text.specs.Replies.{transcript_row}
 use Rattle.unfolding.specs.declared.Unfolding.TheVariants as unfolds
 use Rattle.unfolding.specs.Replies.{unfold_row}
@@ -26,10 +27,10 @@ use Rattle.wording.proofs.Apart.{rule_row_at, fault_row_at, refusal_row_at, row_
 
 -- The table, with "done" in front.
 unfoldable pub all_rows : List Row
-all_rows = Text (Made 0) ∷ reply_rows
+all_rows = Text (Ok 0) ∷ reply_rows
 
 unfoldable pub listed_row : Row → Row
-listed_row x = get_or all_rows (row_at x) (Text (Made 0))
+listed_row x = get_or all_rows (row_at x) (Text (Ok 0))
 
 pub record Listed (x : Row) : Type 0 where
   pub within : row_at x < length all_rows
@@ -61,7 +62,7 @@ fault-listed TextLeft = record { within = omega arith; number = refl; words = re
 fault-listed NoMessage = record { within = omega arith; number = refl; words = refl }
 
 -- a text's file is refused as the file is
-file-listed : (x : Fault) → Listed (Text (BadFile x))
+file-listed : (x : Fault) → Listed (Text (Err (BadFile x)))
 unfolding listed_row row_at refusal_row_at fault_row_at all_rows reply_rows row_number refusal_row transcript_row unfold_row fault_row row_words refusal_words transcript_words extended_words unfolding_words fault_words
 file-listed x = let l = fault-listed x in record { within = l.within; number = l.number; words = l.words }
 
@@ -86,10 +87,10 @@ refusal-listed ClockFull = record { within = omega arith; number = refl; words =
 pub every-row : (x : Row) → Listed x
 unfolding listed_row row_at refusal_row_at fault_row_at all_rows reply_rows row_number refusal_row transcript_row unfold_row fault_row row_words refusal_words transcript_words extended_words unfolding_words fault_words
 every-row (Call x) = refusal-listed x
-every-row (Text (Made n)) = record { within = omega arith; number = refl; words = refl }
-every-row (Text NoRoom) = record { within = omega arith; number = refl; words = refl }
-every-row (Text (BadText l c)) = record { within = omega arith; number = refl; words = refl }
-every-row (Text (BadFile x)) = file-listed x
+every-row (Text (Ok n)) = record { within = omega arith; number = refl; words = refl }
+every-row (Text (Err NoRoom)) = record { within = omega arith; number = refl; words = refl }
+every-row (Text (Err (BadText l c))) = record { within = omega arith; number = refl; words = refl }
+every-row (Text (Err (BadFile x))) = file-listed x
 every-row (Unfold (unfolds.Made n)) = record { within = omega arith; number = refl; words = refl }
 every-row (Unfold unfolds.NoRoom) = record { within = omega arith; number = refl; words = refl }
 every-row (Unfold (unfolds.BadExtended zero)) = record { within = omega arith; number = refl; words = refl }

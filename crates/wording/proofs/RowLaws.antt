@@ -1,5 +1,6 @@
 -- The lines of the rows, laid one behind the other, are the table's.
 -- Assumes nothing.
+use Rattle.std.specs.Prelude.{Result}
 use mathlib.Core.List.{List, [], ◌∷◌, ◌++◌, append_assoc, append-nil}
 use Prim.Native.Nat.{ℕ, ◌+◌, ◌*◌, ◌<◌, ◌≤◌}
 use native.Mathlib.Numerals.{add-one}
@@ -17,7 +18,7 @@ use mathlib.Core.Path.{◌≡◌}
 use Rattle.contents.specs.declared.Reply.{Reply}
 use Rattle.session.specs.declared.Refusal.{Refusal}
 use Rattle.session.specs.Replies.{refusal_row}
-use Rattle.text.specs.declared.Transcript.{Transcript}
+use Rattle.text.specs.declared.TextError.{TextError}
 use Rattle.text.specs.declared.TextReply.{TextReply}
 use Rattle.text.specs.Replies.{transcript_row}
 use Rattle.unfolding.specs.declared.Unfolding.{Unfolding}
@@ -43,7 +44,7 @@ module _ (x : Row) where
   unfolding row_number
   number-call c r e p = rw (e, p)
 
-  pub number-text : (t : Transcript) (r : TextReply) → x ≡ Text t → r ≡ transcript_row t → r.number ≡ row_number x
+  pub number-text : (t : Result ℕ TextError) (r : TextReply) → x ≡ Text t → r ≡ transcript_row t → r.number ≡ row_number x
   unfolding row_number
   number-text t r e p = rw (e, p)
 
@@ -56,7 +57,7 @@ module _ (x : Row) where
     unfolding row_words
     words-call c e l = rw e l
 
-    pub words-text : (t : Transcript) → x ≡ Text t → Laid o at (transcript_words t) m r → Laid o at (row_words x) m r
+    pub words-text : (t : Result ℕ TextError) → x ≡ Text t → Laid o at (transcript_words t) m r → Laid o at (row_words x) m r
     unfolding row_words
     words-text t e l = rw e l
 

@@ -1,5 +1,6 @@
 -- Every row of the reply table has words, and none has more bytes than there is room for.
 -- Assumes nothing.
+use Rattle.std.specs.Prelude.{Result, Ok, Err}
 use mathlib.Core.Path.{◌≡◌, refl}
 use mathlib.Core.Bool.{Bool}
 use mathlib.Core.List.{List}
@@ -15,8 +16,8 @@ use Rattle.contents.specs.declared.ItemRule.{ItemRule}
 use Rattle.contents.specs.declared.ItemRule.TheVariants as rule
 use Rattle.session.specs.declared.Refusal.{Refusal}
 use Rattle.session.specs.declared.Refusal.TheVariants.{MemoryShort, RoomShort, File, BadTempo, BadGrace, NoSession, NoEvent, NotAfter, BadMillis, ClockFull}
-use Rattle.text.specs.declared.Transcript.{Transcript}
-use Rattle.text.specs.declared.Transcript.TheVariants.{Made, NoRoom, BadText, BadFile}
+use Rattle.text.specs.declared.TextError.{TextError}
+use Rattle.text.specs.declared.TextError.TheVariants.{NoRoom, BadText, BadFile}
 use Rattle.unfolding.specs.declared.Unfolding.{Unfolding}
 use Rattle.unfolding.specs.declared.Unfolding.TheVariants as unfolds
 use Rattle.wording.specs.Words.{rule_words, fault_words, refusal_words, transcript_words, extended_words, unfolding_words, done_words, most_words, fault_placed, placed}
@@ -60,12 +61,12 @@ words-told NotAfter = (omega arith, omega arith)
 words-told BadMillis = (omega arith, omega arith)
 words-told ClockFull = (omega arith, omega arith)
 
-pub transcript-told : (t : Transcript) → (0 < length (transcript_words t)) × (length (transcript_words t) ≤ most_words)
+pub transcript-told : (t : Result ℕ TextError) → (0 < length (transcript_words t)) × (length (transcript_words t) ≤ most_words)
 unfolding transcript_words
-transcript-told (Made n) = (omega arith, omega arith)
-transcript-told NoRoom = (omega arith, omega arith)
-transcript-told (BadText l c) = (omega arith, omega arith)
-transcript-told (BadFile x) = fault-most x
+transcript-told (Ok n) = (omega arith, omega arith)
+transcript-told (Err NoRoom) = (omega arith, omega arith)
+transcript-told (Err (BadText l c)) = (omega arith, omega arith)
+transcript-told (Err (BadFile x)) = fault-most x
 
 -- ---- the row of a case is the row of what is this case
 
@@ -85,12 +86,12 @@ module _ {o m words : List ℕ} {at r : ℕ} where
       let s : r ≡ at + length words = laid.stop in
       (rw (e, p) laid, omega (arith, rw p at (words-told y)))
 
-  pub transcript-case : {x y : Transcript} → x ≡ y → Laid o at words m r → transcript_words y ≡ words → Laid o at (transcript_words x) m r × (r ≤ at + most_words)
+  pub transcript-case : {x y : Result ℕ TextError} → x ≡ y → Laid o at words m r → transcript_words y ≡ words → Laid o at (transcript_words x) m r × (r ≤ at + most_words)
   transcript-case {x} {y} e laid p =
       let s : r ≡ at + length words = laid.stop in
       (rw (e, p) laid, omega (arith, rw p at (transcript-told y)))
 
-pub transcript-file : (o m : List ℕ) (at r : ℕ) (t : Transcript) (f : Fault) → t ≡ BadFile f → Laid o at (fault_words f) m r → Laid o at (transcript_words t) m r
+pub transcript-file : (o m : List ℕ) (at r : ℕ) (t : Result ℕ TextError) (f : Fault) → t ≡ Err (BadFile f) → Laid o at (fault_words f) m r → Laid o at (transcript_words t) m r
 unfolding transcript_words
 transcript-file o m at r t f e laid = rw e laid
 
@@ -117,7 +118,7 @@ module _ (o m : List ℕ) (at r : ℕ) where
     unfolding unfolding_words
     unfold-done n e laid = rw e laid
 
-    pub unfold-room : u ≡ unfolds.NoRoom → Laid o at (transcript_words NoRoom) m r → Laid o at (unfolding_words u) m r
+    pub unfold-room : u ≡ unfolds.NoRoom → Laid o at (transcript_words (Err NoRoom)) m r → Laid o at (unfolding_words u) m r
     unfolding unfolding_words
     unfold-room e laid = rw e laid
 

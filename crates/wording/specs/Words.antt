@@ -1,5 +1,5 @@
 -- The reply table for people, row by row, and the whole of it.
-use Rattle.std.specs.Prelude.{ℕ, zero, suc, Bool, true, false, List, [], ◌∷◌, ◌++◌}
+use Rattle.std.specs.Prelude.{ℕ, zero, suc, Bool, true, false, List, [], ◌∷◌, ◌++◌, Result, Ok, Err}
 use Rattle.ascii.specs.Words.{space, newline}
 use Rattle.ascii.specs.Decimals.{decimal}
 use Rattle.contents.specs.declared.Fault.{Fault}
@@ -9,8 +9,8 @@ use Rattle.contents.specs.declared.ItemRule.TheVariants as rule
 use Rattle.session.specs.declared.Refusal.{Refusal}
 use Rattle.session.specs.declared.Refusal.TheVariants.{MemoryShort, RoomShort, File, BadTempo, BadGrace, NoSession, NoEvent, NotAfter, BadMillis, ClockFull}
 use Rattle.session.specs.Replies.{refusal_row}
-use Rattle.text.specs.declared.Transcript.{Transcript}
-use Rattle.text.specs.declared.Transcript.TheVariants.{Made, NoRoom, BadText, BadFile}
+use Rattle.text.specs.declared.TextError.{TextError}
+use Rattle.text.specs.declared.TextError.TheVariants.{NoRoom, BadText, BadFile}
 use Rattle.text.specs.Replies.{transcript_row}
 use Rattle.unfolding.specs.declared.Unfolding.{Unfolding}
 use Rattle.unfolding.specs.declared.Unfolding.TheVariants as unfolds
@@ -63,11 +63,11 @@ abbrev pub done_words : List ℕ
 done_words = bytes_of "done"
 
 -- What comes of a text that is read, or of a file that is written as one.
-unfoldable pub transcript_words : Transcript → List ℕ
-transcript_words (Made n) = done_words
-transcript_words NoRoom = bytes_of "file room under 52,256 bytes, text room too short"
-transcript_words (BadText l c) = bytes_of "text against the grammar"
-transcript_words (BadFile x) = fault_words x
+unfoldable pub transcript_words : Result ℕ TextError → List ℕ
+transcript_words (Ok n) = done_words
+transcript_words (Err NoRoom) = bytes_of "file room under 52,256 bytes, text room too short"
+transcript_words (Err (BadText l c)) = bytes_of "text against the grammar"
+transcript_words (Err (BadFile x)) = fault_words x
 
 -- "17 for bad contents (place 0) or a bad loop or curve (its first byte)": a group or an action may be at fault as well. Points left over have place 0, too.
 unfoldable pub extended_words : (place : ℕ) → List ℕ
@@ -77,7 +77,7 @@ extended_words (suc place) = bytes_of "an item that can't be unfolded"
 -- What comes of an extended score that is unfolded. "2 for a file room as in (i)", "18 (place 0) when the unfolded file would break a limit"
 unfoldable pub unfolding_words : Unfolding → List ℕ
 unfolding_words (unfolds.Made n) = done_words
-unfolding_words unfolds.NoRoom = transcript_words NoRoom
+unfolding_words unfolds.NoRoom = transcript_words (Err NoRoom)
 unfolding_words (unfolds.BadExtended place) = extended_words place
 unfolding_words unfolds.OverLimit = bytes_of "the unfolded score would break a limit"
 unfolding_words (unfolds.BadFile x) = fault_words x
@@ -126,7 +126,7 @@ unfoldable pub reply_rows : List Row
 reply_rows =
     Call MemoryShort
     ∷ Call RoomShort
-    ∷ Text NoRoom
+    ∷ Text (Err NoRoom)
     ∷ Call (File FileShort)
     ∷ Call (File (BadCount 4))
     ∷ Call (File (BadOffset 0))
@@ -141,7 +141,7 @@ reply_rows =
     ∷ Call BadMillis
     ∷ Call ClockFull
     ∷ Call (File NoMessage)
-    ∷ Text (BadText 1 1)
+    ∷ Text (Err (BadText 1 1))
     ∷ Unfold (unfolds.BadExtended 0)
     ∷ Unfold (unfolds.BadExtended 40)
     ∷ Unfold unfolds.OverLimit

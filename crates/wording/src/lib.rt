@@ -5,7 +5,7 @@ pub use figures::{put_counted, put_figure};
 pub use replies::reply_lines;
 use session::Refusal;
 pub use table::{placed, put_text_words, put_unfold_words, put_words};
-use text::Transcript;
+use text::TextError;
 use unfolding::Unfolding;
 
 mod figures;
@@ -16,6 +16,6 @@ mod table;
 #[derive(Clone, Copy)]
 pub enum Row {
     Call(Refusal),
-    Text(Transcript),
+    Text(Result<usize, TextError>),
     Unfold(Unfolding),
 }

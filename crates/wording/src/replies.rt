@@ -9,7 +9,7 @@ use crate::table::{put_text_words, put_unfold_words, put_words};
 use ascii::{NEWLINE, SPACE, put_byte, put_bytes};
 use contents::{Fault, ItemRule};
 use session::{Refusal, refusal_row};
-use text::{Transcript, replied_text};
+use text::{TextError, replied_text};
 use unfolding::{Unfolding, replied_unfolding};
 
 const ROWS: usize = 30;
@@ -21,7 +21,7 @@ fn row_at(i: usize) -> Row
     match i {
         0 => Row::Call(Refusal::MemoryShort),
         1 => Row::Call(Refusal::RoomShort),
-        2 => Row::Text(Transcript::NoRoom),
+        2 => Row::Text(Err(TextError::NoRoom)),
         3 => Row::Call(Refusal::File(Fault::FileShort)),
         4 => Row::Call(Refusal::File(Fault::BadCount(4))),
         5 => Row::Call(Refusal::File(Fault::BadOffset(0))),
@@ -36,7 +36,7 @@ fn row_at(i: usize) -> Row
         14 => Row::Call(Refusal::BadMillis),
         15 => Row::Call(Refusal::ClockFull),
         16 => Row::Call(Refusal::File(Fault::NoMessage)),
-        17 => Row::Text(Transcript::BadText { line: 1, column: 1 }),
+        17 => Row::Text(Err(TextError::BadText { line: 1, column: 1 })),
         18 => Row::Unfold(Unfolding::BadExtended { place: 0 }),
         19 => Row::Unfold(Unfolding::BadExtended { place: 40 }),
         20 => Row::Unfold(Unfolding::OverLimit),

@@ -6,7 +6,7 @@ ghost use Rattle.wording.specs.Words.{rule_words, fault_words, refusal_words, tr
 use ascii::put_bytes;
 use contents::{Fault, ItemRule};
 use session::Refusal;
-use text::Transcript;
+use text::TextError;
 use unfolding::Unfolding;
 
 // The words of an item's rule behind the first `at` bytes. Answers where the next byte goes.
@@ -89,23 +89,23 @@ pub fn put_words(out: &mut [u8], at: usize, x: Refusal) -> usize
 }
 
 // The same for what comes of a text.
-pub fn put_text_words(out: &mut [u8], at: usize, t: Transcript) -> usize
+pub fn put_text_words(out: &mut [u8], at: usize, t: Result<usize, TextError>) -> usize
     requires { at + most_words ≤ length out.old }
     ensures { Laid out.old at (transcript_words t) out.new result × (result ≤ at + most_words) }
 {
     match t {
-        Transcript::Made { size: _ } => put_bytes(out, at, b"done"),
-        Transcript::NoRoom => put_bytes(
+        Ok(_) => put_bytes(out, at, b"done"),
+        Err(TextError::NoRoom) => put_bytes(
             out,
             at,
             b"file room under 52,256 bytes, text room too short",
         ),
-        Transcript::BadText { line: _, column: _ } => put_bytes(
+        Err(TextError::BadText { line: _, column: _ }) => put_bytes(
             out,
             at,
             b"text against the grammar",
         ),
-        Transcript::BadFile { fault } => put_fault_words(out, at, fault),
+        Err(TextError::BadFile { fault }) => put_fault_words(out, at, fault),
     }
 }
 
@@ -127,7 +127,7 @@ pub fn put_unfold_words(out: &mut [u8], at: usize, u: Unfolding) -> usize
 {
     match u {
         Unfolding::Made { size: _ } => put_bytes(out, at, b"done"),
-        Unfolding::NoRoom => put_text_words(out, at, Transcript::NoRoom),
+        Unfolding::NoRoom => put_text_words(out, at, Err(TextError::NoRoom)),
         Unfolding::BadExtended { place } => put_extended_words(out, at, place),
         Unfolding::OverLimit => put_bytes(out, at, b"the unfolded score would break a limit"),
         Unfolding::BadFile { fault } => put_fault_words(out, at, fault),

@@ -1,5 +1,6 @@
 -- The whole text in lent bytes, and what is then answered and left in the room.
 -- Assumes nothing.
+use Rattle.std.specs.Prelude.{Result, Ok, Err}
 use mathlib.Core.Path.{◌≡◌, refl, sym, ap, ◌∙◌}
 use mathlib.Core.List.{List, [], ◌++◌, append-nil}
 use Prim.Native.Nat.{ℕ, ◌+◌, ◌<◌, ◌≤◌}
@@ -19,8 +20,8 @@ use Rattle.score.specs.Piece.{Piece, decode}
 use Rattle.score.specs.File.{checked, Accepted}
 use Rattle.score.proofs.Accepted.{accepted-told}
 use Rattle.score.proofs.EncodingFiles.{decode-lawful}
-use Rattle.text.specs.declared.Transcript.{Transcript}
-use Rattle.text.specs.declared.Transcript.TheVariants.{Made, NoRoom, BadFile}
+use Rattle.text.specs.declared.TextError.{TextError}
+use Rattle.text.specs.declared.TextError.TheVariants.{NoRoom, BadFile}
 use Rattle.text.specs.Written.{written}
 use Rattle.text.specs.Transcripts.{text_room, fitted, allowed, room_left, write_answer}
 use Rattle.text.proofs.SizeLaws.{text_short}
@@ -60,19 +61,19 @@ pub ruleset texts = (heading-room, list-room, page-room, text-laid, rules)
 -- ---- the room
 
 module _ (text room : List ℕ) where
-  pub whole-short : length room < length text → NoRoom ≡ fitted (length room) text
+  pub whole-short : length room < length text → Err NoRoom ≡ fitted (length room) text
   unfolding fitted pick
   whole-short p = rw (lt-leb (length text) (length room) p)
 
-  pub short-left : room ≡ room_left NoRoom text room
+  pub short-left : room ≡ room_left (Err NoRoom) text room
   unfolding room_left
   short-left = refl
 
-  pub whole-made : length text ≤ length room → Made (length text) ≡ fitted (length room) text
+  pub whole-made : length text ≤ length room → Ok (length text) ≡ fitted (length room) text
   unfolding fitted pick
   whole-made p = rw (le-leb (length text) (length room) p)
 
-  pub whole-left : (new : List ℕ) (r : ℕ) → Laid room 0 text new r → new ≡ room_left (Made (length text)) text room
+  pub whole-left : (new : List ℕ) (r : ℕ) → Laid room 0 text new r → new ≡ room_left (Ok (length text)) text room
   unfolding room_left
   whole-left new r l =
       let z : r ≡ length text = omega (arith, l.stop) in
@@ -94,7 +95,7 @@ pub front-count : (p : Piece) (o new : List ℕ) (r : ℕ) → Laid o 0 (written
 front-count p o new r laid = length-take-le r new laid.within
 
 -- what is told of the front of the bytes is told of the text
-module _ (p : Piece) (o new : List ℕ) (r : ℕ) (laid : Laid o 0 (written p) new r) (t : Transcript) (room : List ℕ) where
+module _ (p : Piece) (o new : List ℕ) (r : ℕ) (laid : Laid o 0 (written p) new r) (t : Result ℕ TextError) (room : List ℕ) where
   pub front-fitted : t ≡ fitted (length room) (take r new) → t ≡ fitted (length room) (written p)
   front-fitted e = rw laid.front at e
 
@@ -106,15 +107,15 @@ pub ruleset fronts = (front-count, front-fitted, front-left, rules)
 -- ---- any file
 
 module _ (f room : List ℕ) (v : Verdict) (told : v ≡ verdict_of (checked f)) where
-  pub file-refused : (x : Fault) → v ≡ Refused x → BadFile x ≡ write_answer (length room) f
+  pub file-refused : (x : Fault) → v ≡ Refused x → Err (BadFile x) ≡ write_answer (length room) f
   unfolding write_answer allowed
   file-refused x e = rw (verdict-refused (checked f) v x told e)
 
-  pub file-written : (t : Transcript) → v ≡ Fine → t ≡ fitted (length room) (written (decode f)) → t ≡ write_answer (length room) f
+  pub file-written : (t : Result ℕ TextError) → v ≡ Fine → t ≡ fitted (length room) (written (decode f)) → t ≡ write_answer (length room) f
   unfolding write_answer allowed
   file-written t e p = rw (verdict-fine (checked f) v told e) p
 
-pub refused-left : (x : Fault) (made room : List ℕ) → room ≡ room_left (BadFile x) made room
+pub refused-left : (x : Fault) (made room : List ℕ) → room ≡ room_left (Err (BadFile x)) made room
 unfolding room_left
 refused-left x made room = refl
 

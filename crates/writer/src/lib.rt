@@ -11,7 +11,7 @@ use ascii::put_bytes;
 use contents::Verdict;
 use pages::put_text;
 use score::check_file;
-use text::Transcript;
+use text::TextError;
 
 mod fractions;
 mod nesting;
@@ -23,19 +23,19 @@ mod quoting;
 pub const TEXT_ROOM: usize = 262144;
 
 // The text in the room, where that is long enough.
-fn put_whole(text: &[u8], room: &mut [u8]) -> Transcript
+fn put_whole(text: &[u8], room: &mut [u8]) -> Result<usize, TextError>
     ensures value { result ≡ fitted (length room.old) text.now }
     ensures room_after { room.new ≡ room_left result text.now room.old }
 {
     if room.len() < text.len() {
-        return Transcript::NoRoom;
+        return Err(TextError::NoRoom);
     }
     put_bytes(room, 0, text);
-    Transcript::Made { size: text.len() }
+    Ok(text.len())
 }
 
 // The text is made in an array of its own: how long it is, is known when it stands there.
-fn write_accepted(file: &[u8], room: &mut [u8]) -> Transcript
+fn write_accepted(file: &[u8], room: &mut [u8]) -> Result<usize, TextError>
     requires { Accepted file.now }
     ensures value { result ≡ fitted (length room.old) (written (decode file.now)) }
     ensures room_after { room.new ≡ room_left result (written (decode file.now)) room.old }
@@ -46,13 +46,13 @@ fn write_accepted(file: &[u8], room: &mut [u8]) -> Transcript
 }
 
 // Writes the file's text to the front of the room. A refusal leaves the room.
-pub fn write_text(file: &[u8], room: &mut [u8]) -> Transcript
+pub fn write_text(file: &[u8], room: &mut [u8]) -> Result<usize, TextError>
     ensures value { result ≡ write_answer (length room.old) file.now }
     ensures room_after { room.new ≡ room_left result (written (decode file.now)) room.old }
 {
     let v = check_file(file);
     match v {
         Verdict::Fine => write_accepted(file, room),
-        Verdict::Refused(x) => Transcript::BadFile { fault: x },
+        Verdict::Refused(x) => Err(TextError::BadFile { fault: x }),
     }
 }

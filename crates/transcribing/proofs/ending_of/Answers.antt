@@ -8,30 +8,30 @@ pub enum_told-1 : goal.enum_told-1
 unfolding ending_of
 enum_told-1 c = search endings
 
-pub enum_told-in-NoRoom : goal.enum_told-in-NoRoom
+pub enum_told-in-Err-NoRoom : goal.enum_told-in-Err-NoRoom
 unfolding ending_of
-enum_told-in-NoRoom c = search endings
+enum_told-in-Err-NoRoom c = search endings
 
-pub enum_told-in-BadText : goal.enum_told-in-BadText
+pub enum_told-in-Err-BadText : goal.enum_told-in-Err-BadText
 unfolding ending_of
-enum_told-in-BadText c = search endings
+enum_told-in-Err-BadText c = search endings
 
-pub enum_told-in-BadFile : goal.enum_told-in-BadFile
+pub enum_told-in-Err-BadFile : goal.enum_told-in-Err-BadFile
 unfolding ending_of
-enum_told-in-BadFile c = search endings
+enum_told-in-Err-BadFile c = search endings
 
-pub returns-in-Made : goal.returns-in-Made
+pub returns-in-Ok : goal.returns-in-Ok
 unfolding ending_of
-returns-in-Made c = search endings
+returns-in-Ok c = search endings
 
-pub returns-in-NoRoom : goal.returns-in-NoRoom
+pub returns-in-Err-NoRoom : goal.returns-in-Err-NoRoom
 unfolding ending_of
-returns-in-NoRoom c = search endings
+returns-in-Err-NoRoom c = search endings
 
-pub returns-in-BadText : goal.returns-in-BadText
+pub returns-in-Err-BadText : goal.returns-in-Err-BadText
 unfolding ending_of
-returns-in-BadText c = search endings
+returns-in-Err-BadText c = search endings
 
-pub returns-in-BadFile : goal.returns-in-BadFile
+pub returns-in-Err-BadFile : goal.returns-in-Err-BadFile
 unfolding ending_of
-returns-in-BadFile c = search endings
+returns-in-Err-BadFile c = search endings

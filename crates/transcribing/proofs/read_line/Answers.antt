@@ -6,8 +6,8 @@ use Rattle.transcribing.proofs.read_line.Goals as goal
 pub enum_told-1 : goal.enum_told-1
 enum_told-1 c = search reading
 
-pub enum_told-in-NoRoom : goal.enum_told-in-NoRoom
-enum_told-in-NoRoom c = search reading
+pub enum_told-in-Err-NoRoom : goal.enum_told-in-Err-NoRoom
+enum_told-in-Err-NoRoom c = search reading
 
 pub room_line-requires : goal.room_line-requires
 room_line-requires c = search reading
@@ -18,29 +18,29 @@ enum_known-t c = search reading
 pub put_faulty-requires : goal.put_faulty-requires
 put_faulty-requires c = search reading
 
-pub enum_known-t-in-BadFile-1 : goal.enum_known-t-in-BadFile-1
-enum_known-t-in-BadFile-1 c = search reading
+pub enum_known-t-in-Err-BadFile-1 : goal.enum_known-t-in-Err-BadFile-1
+enum_known-t-in-Err-BadFile-1 c = search reading
 
 pub put_unfit-requires : goal.put_unfit-requires
 put_unfit-requires c = search reading
 
-pub returns-in-Made : goal.returns-in-Made
-returns-in-Made c = search reading
+pub returns-in-Ok : goal.returns-in-Ok
+returns-in-Ok c = search reading
 
-pub shape_of-out-in-NoRoom : goal.shape_of-out-in-NoRoom
-shape_of-out-in-NoRoom c = search reading
+pub shape_of-out-in-Err-NoRoom : goal.shape_of-out-in-Err-NoRoom
+shape_of-out-in-Err-NoRoom c = search reading
 
-pub returns-in-NoRoom : goal.returns-in-NoRoom
-returns-in-NoRoom c = search reading
+pub returns-in-Err-NoRoom : goal.returns-in-Err-NoRoom
+returns-in-Err-NoRoom c = search reading
 
-pub shape_of-out-in-BadText : goal.shape_of-out-in-BadText
-shape_of-out-in-BadText c = search reading
+pub shape_of-out-in-Err-BadText : goal.shape_of-out-in-Err-BadText
+shape_of-out-in-Err-BadText c = search reading
 
-pub returns-in-BadText : goal.returns-in-BadText
-returns-in-BadText c = search reading
+pub returns-in-Err-BadText : goal.returns-in-Err-BadText
+returns-in-Err-BadText c = search reading
 
-pub shape_of-out-in-BadFile : goal.shape_of-out-in-BadFile
-shape_of-out-in-BadFile c = search reading
+pub shape_of-out-in-Err-BadFile : goal.shape_of-out-in-Err-BadFile
+shape_of-out-in-Err-BadFile c = search reading
 
-pub returns-in-BadFile : goal.returns-in-BadFile
-returns-in-BadFile c = search reading
+pub returns-in-Err-BadFile : goal.returns-in-Err-BadFile
+returns-in-Err-BadFile c = search reading

@@ -13,21 +13,21 @@ pub put_bytes-requires : goal.put_bytes-requires
 unfolding transcript_words
 put_bytes-requires c = search rows
 
-pub enum_told-in-NoRoom : goal.enum_told-in-NoRoom
+pub enum_told-in-Err-NoRoom : goal.enum_told-in-Err-NoRoom
 unfolding transcript_words
-enum_told-in-NoRoom c = search rows
+enum_told-in-Err-NoRoom c = search rows
 
-pub put_bytes-requires-in-NoRoom : goal.put_bytes-requires-in-NoRoom
+pub put_bytes-requires-in-Err-NoRoom : goal.put_bytes-requires-in-Err-NoRoom
 unfolding transcript_words
-put_bytes-requires-in-NoRoom c = search rows
+put_bytes-requires-in-Err-NoRoom c = search rows
 
-pub enum_told-in-BadText : goal.enum_told-in-BadText
+pub enum_told-in-Err-BadText : goal.enum_told-in-Err-BadText
 unfolding transcript_words
-enum_told-in-BadText c = search rows
+enum_told-in-Err-BadText c = search rows
 
-pub put_bytes-requires-in-BadText : goal.put_bytes-requires-in-BadText
+pub put_bytes-requires-in-Err-BadText : goal.put_bytes-requires-in-Err-BadText
 unfolding transcript_words
-put_bytes-requires-in-BadText c = search rows
+put_bytes-requires-in-Err-BadText c = search rows
 
 pub enum_known-t : goal.enum_known-t
 unfolding transcript_words
@@ -37,34 +37,34 @@ pub put_fault_words-requires : goal.put_fault_words-requires
 unfolding transcript_words
 put_fault_words-requires c = search rows
 
-pub shape_of-out-in-Made : goal.shape_of-out-in-Made
+pub shape_of-out-in-Ok : goal.shape_of-out-in-Ok
 unfolding transcript_words
-shape_of-out-in-Made c = search rows
+shape_of-out-in-Ok c = search rows
 
-pub returns-in-Made : goal.returns-in-Made
+pub returns-in-Ok : goal.returns-in-Ok
 unfolding transcript_words
-returns-in-Made c = transcript-case c.in-Made.is c.put_bytes.ensures refl
+returns-in-Ok c = transcript-case c.in-Ok.is c.put_bytes.ensures refl
 
-pub shape_of-out-in-NoRoom : goal.shape_of-out-in-NoRoom
+pub shape_of-out-in-Err-NoRoom : goal.shape_of-out-in-Err-NoRoom
 unfolding transcript_words
-shape_of-out-in-NoRoom c = search rows
+shape_of-out-in-Err-NoRoom c = search rows
 
-pub returns-in-NoRoom : goal.returns-in-NoRoom
+pub returns-in-Err-NoRoom : goal.returns-in-Err-NoRoom
 unfolding transcript_words
-returns-in-NoRoom c = transcript-case c.in-NoRoom.is c.put_bytes-in-NoRoom.ensures refl
+returns-in-Err-NoRoom c = transcript-case c.in-Err-NoRoom.is c.put_bytes-in-Err-NoRoom.ensures refl
 
-pub shape_of-out-in-BadText : goal.shape_of-out-in-BadText
+pub shape_of-out-in-Err-BadText : goal.shape_of-out-in-Err-BadText
 unfolding transcript_words
-shape_of-out-in-BadText c = search rows
+shape_of-out-in-Err-BadText c = search rows
 
-pub returns-in-BadText : goal.returns-in-BadText
+pub returns-in-Err-BadText : goal.returns-in-Err-BadText
 unfolding transcript_words
-returns-in-BadText c = transcript-case c.in-BadText.is c.put_bytes-in-BadText.ensures refl
+returns-in-Err-BadText c = transcript-case c.in-Err-BadText.is c.put_bytes-in-Err-BadText.ensures refl
 
-pub shape_of-out-in-BadFile : goal.shape_of-out-in-BadFile
+pub shape_of-out-in-Err-BadFile : goal.shape_of-out-in-Err-BadFile
 unfolding transcript_words
-shape_of-out-in-BadFile c = search rows
+shape_of-out-in-Err-BadFile c = search rows
 
-pub returns-in-BadFile : goal.returns-in-BadFile
+pub returns-in-Err-BadFile : goal.returns-in-Err-BadFile
 unfolding transcript_words
-returns-in-BadFile c = search rows
+returns-in-Err-BadFile c = search rows
