@@ -29,7 +29,7 @@ struct Told {
     figure: u64,
 }
 
-fn tell_check(v: contents::Verdict) -> Told {
+fn tell_check(v: Result<(), contents::Fault>) -> Told {
     let r = contents::replied(v);
     Told {
         number: r.number,

@@ -5,14 +5,13 @@ use mathlib.Core.Bool.{true, false}
 use mathlib.Core.List.{List, [], ◌∷◌}
 use Prim.Native.Nat.{ℕ}
 use borrow.Author.Rules.{rules}
+use Rattle.std.specs.Prelude.{Result, Ok, Err}
 use Rattle.ascii.specs.Words.{newline}
 use Rattle.ascii.specs.Text.{bytes_of}
 use Rattle.ascii.specs.Laying.{Laid}
 use Rattle.ascii.proofs.LayLaws.{laid-join}
 use Rattle.base.specs.Checks.{fine, refused, is_fine}
 use Rattle.contents.specs.declared.Fault.{Fault}
-use Rattle.contents.specs.declared.Verdict.{Verdict}
-use Rattle.contents.specs.declared.Verdict.TheVariants.{Fine, Refused}
 use Rattle.contents.specs.Replies.{verdict_of}
 use Rattle.contents.specs.Contents.{counts_of}
 use Rattle.contents.proofs.Verdicts.{verdict-fine, verdict-refused}
@@ -47,12 +46,12 @@ module _ {o m₁ m₂ m₃ m₄ n name : List ℕ} {a b c d r : ℕ} (f : List �
 
 -- ---- of any file, by what its check told
 
-module _ (o n name f : List ℕ) (v : Verdict) (told : v ≡ verdict_of (checked f)) (count : ℕ) where
-  pub told-accepted : v ≡ Fine → Laid o 0 (accepted_line name f) n count → CheckTold o name f n (record { count = count; accepted = true })
+module _ (o n name f : List ℕ) (v : Result (Unit {0}) Fault) (told : v ≡ verdict_of (checked f)) (count : ℕ) where
+  pub told-accepted : v ≡ Ok tt → Laid o 0 (accepted_line name f) n count → CheckTold o name f n (record { count = count; accepted = true })
   unfolding checked_line line_by is_fine
   told-accepted e l = let z : checked f ≡ fine = verdict-fine (checked f) v told e in record { line = rw z l; accepted = rw z }
 
-  pub told-refused : (x : Fault) → v ≡ Refused x → Laid o 0 (refusal_line name f (File x)) n count → CheckTold o name f n (record { count = count; accepted = false })
+  pub told-refused : (x : Fault) → v ≡ Err x → Laid o 0 (refusal_line name f (File x)) n count → CheckTold o name f n (record { count = count; accepted = false })
   unfolding checked_line line_by is_fine
   told-refused x e l = let z : checked f ≡ refused x = verdict-refused (checked f) v x told e in record { line = rw z l; accepted = rw z }
 

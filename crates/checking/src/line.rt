@@ -9,7 +9,6 @@ use crate::parts::put_parts;
 use crate::run::put_count;
 use crate::tallies::action_count;
 use ascii::{NEWLINE, put_byte, put_bytes};
-use contents::Verdict;
 use refusals::refusal_line;
 use score::{check_file, event_count, item_count, message_count};
 use session::Refusal;
@@ -55,11 +54,11 @@ pub fn check_line(out: &mut [u8], name: &[u8], file: &[u8]) -> Checked
 {
     let v = check_file(file);
     match v {
-        Verdict::Fine => Checked {
+        Ok(()) => Checked {
             count: accepted_line(out, name, file),
             accepted: true,
         },
-        Verdict::Refused(x) => Checked {
+        Err(x) => Checked {
             count: refusal_line(out, name, file, Refusal::File(x)),
             accepted: false,
         },

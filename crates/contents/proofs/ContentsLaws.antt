@@ -5,11 +5,11 @@ use mathlib.Core.Bool.{true, false}
 use Prim.Native.Nat.{ℕ}
 use lib.Dec.{eqb}
 use borrow.Author.Tests.{eq-eqb, ne_eqb, leb-true, eqb-true}
+use Rattle.std.specs.Prelude.{Result, Ok}
 use Rattle.base.specs.Checks.{fine}
 use Rattle.base.proofs.TestLaws.{between-low, between-high}
 use Rattle.base.proofs.CheckLaws.{first_rest, first_holds}
-use Rattle.contents.specs.declared.Verdict.{Verdict}
-use Rattle.contents.specs.declared.Verdict.TheVariants.{Fine}
+use Rattle.contents.specs.declared.Fault.{Fault}
 use Rattle.contents.specs.declared.Counts.{Counts}
 use Rattle.contents.specs.declared.Offsets.{Offsets}
 use Rattle.contents.specs.Replies.{verdict_of}
@@ -67,8 +67,8 @@ offsets-held o c size e =
       whole = eqb-true _ _ (first_holds _ _ _ e₄);
     }
 
-pub counts-told : (v : Verdict) (c : Counts) → v ≡ verdict_of (counts_right c) → v ≡ Fine → Counted c
+pub counts-told : (v : Result (Unit {0}) Fault) (c : Counts) → v ≡ verdict_of (counts_right c) → v ≡ Ok tt → Counted c
 counts-told v c e p = counts-held c (verdict-fine (counts_right c) v e p)
 
-pub sized-told : (v w : Verdict) (o : Offsets) (c : Counts) (size : ℕ) → v ≡ verdict_of (counts_right c) → v ≡ Fine → w ≡ verdict_of (offsets_right o c size) → w ≡ Fine → Sized c size
+pub sized-told : (v w : Result (Unit {0}) Fault) (o : Offsets) (c : Counts) (size : ℕ) → v ≡ verdict_of (counts_right c) → v ≡ Ok tt → w ≡ verdict_of (offsets_right o c size) → w ≡ Ok tt → Sized c size
 sized-told v w o c size e p f q = record { counted = counts-told v c e p; whole = (offsets-held o c size (verdict-fine (offsets_right o c size) w f q)).whole }

@@ -1,11 +1,10 @@
 -- The reply table: the number and the place of every answer about a file.
+use Rattle.std.specs.Prelude.{Result, Ok, Err}
 use Rattle.base.specs.Checks.{Check, fine, refused}
 use Rattle.contents.specs.declared.Fault.{Fault}
 use Rattle.contents.specs.declared.Fault.TheVariants.{FileShort, BadCount, BadOffset, BadLength, BadEvent, BadItem, BadMessage, TextLeft, NoMessage}
 use Rattle.contents.specs.declared.ItemRule.{ItemRule}
 use Rattle.contents.specs.declared.ItemRule.TheVariants as rule
-use Rattle.contents.specs.declared.Verdict.{Verdict}
-use Rattle.contents.specs.declared.Verdict.TheVariants.{Fine, Refused}
 use Rattle.contents.specs.declared.Reply.{Reply}
 use Rattle.contents.specs.declared.RuleRow.{RuleRow}
 
@@ -35,11 +34,11 @@ fault_row TextLeft = record { number = 8; place = 24 }
 fault_row NoMessage = record { number = 15; place = 0 }
 
 -- "0 | done | 0", and the row of a fault
-unfoldable pub reply_of : Verdict → Reply
-reply_of Fine = record { number = 0; place = 0 }
-reply_of (Refused x) = fault_row x
+unfoldable pub reply_of : Result (Unit {0}) Fault → Reply
+reply_of (Ok _) = record { number = 0; place = 0 }
+reply_of (Err x) = fault_row x
 
 -- What a check finds, as a call tells it.
-unfoldable pub verdict_of : Check Fault → Verdict
-verdict_of fine = Fine
-verdict_of (refused x) = Refused x
+unfoldable pub verdict_of : Check Fault → Result (Unit {0}) Fault
+verdict_of fine = Ok tt
+verdict_of (refused x) = Err x

@@ -58,13 +58,6 @@ pub enum ItemRule {
     Actions,
 }
 
-// What a check of a file, or of a part of it, finds.
-#[derive(Clone, Copy)]
-pub enum Verdict {
-    Fine,
-    Refused(Fault),
-}
-
 // A row of the table of an item's rules: the number, and where the rule's field stands in the item.
 #[derive(Clone, Copy)]
 pub struct RuleRow {
@@ -149,50 +142,50 @@ pub fn size_of(c: Counts) -> usize
     text_at(c) + c.text
 }
 
-pub fn check_counts(c: Counts) -> Verdict
+pub fn check_counts(c: Counts) -> Result<(), Fault>
     ensures { result ≡ verdict_of (counts_right c) }
 {
     if c.events < 1 {
-        return Verdict::Refused(Fault::BadCount(4));
+        return Err(Fault::BadCount(4));
     }
     if MOST_EVENTS < c.events {
-        return Verdict::Refused(Fault::BadCount(4));
+        return Err(Fault::BadCount(4));
     }
     if MOST_ITEMS < c.items {
-        return Verdict::Refused(Fault::BadCount(12));
+        return Err(Fault::BadCount(12));
     }
     if MOST_MESSAGES < c.messages {
-        return Verdict::Refused(Fault::BadCount(20));
+        return Err(Fault::BadCount(20));
     }
     if MOST_TEXT < c.text {
-        return Verdict::Refused(Fault::BadCount(28));
+        return Err(Fault::BadCount(28));
     }
-    Verdict::Fine
+    Ok(())
 }
 
-pub fn check_offsets(o: Offsets, c: Counts, size: usize) -> Verdict
+pub fn check_offsets(o: Offsets, c: Counts, size: usize) -> Result<(), Fault>
     requires { Counted c }
     ensures { result ≡ verdict_of (offsets_right o c size) }
 {
     if o.events != CONTENTS_SIZE {
-        return Verdict::Refused(Fault::BadOffset(0));
+        return Err(Fault::BadOffset(0));
     }
     if o.items != items_at(c) {
-        return Verdict::Refused(Fault::BadOffset(8));
+        return Err(Fault::BadOffset(8));
     }
     if o.messages != messages_at(c) {
-        return Verdict::Refused(Fault::BadOffset(16));
+        return Err(Fault::BadOffset(16));
     }
     if o.text != text_at(c) {
-        return Verdict::Refused(Fault::BadOffset(24));
+        return Err(Fault::BadOffset(24));
     }
     if size != size_of(c) {
-        return Verdict::Refused(Fault::BadLength);
+        return Err(Fault::BadLength);
     }
-    Verdict::Fine
+    Ok(())
 }
 
-pub fn check_layout(file: &[u8], c: Counts) -> Verdict
+pub fn check_layout(file: &[u8], c: Counts) -> Result<(), Fault>
     requires { (contents_size ≤ length file.now) × Counted c }
     ensures { result ≡ verdict_of (offsets_right (offsets_of file.now) c (length file.now)) }
 {

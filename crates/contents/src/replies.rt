@@ -2,7 +2,7 @@
 ghost use Rattle.std.specs.Prelude.{◌≡◌};
 ghost use Rattle.contents.specs.Replies.{rule_row, fault_row, reply_of};
 
-use crate::{Fault, ItemRule, Reply, RuleRow, Verdict};
+use crate::{Fault, ItemRule, Reply, RuleRow};
 
 fn row(number: usize, place: usize) -> Reply
     ensures { result ≡ record { number = number; place = place } }
@@ -50,14 +50,14 @@ fn fault_row(x: Fault) -> Reply
 }
 
 // The reply table's number and place for what a check or a look-up found.
-pub fn replied(v: Verdict) -> Reply
+pub fn replied(v: Result<(), Fault>) -> Reply
     ensures { result ≡ reply_of v }
 {
     match v {
-        Verdict::Fine => Reply {
+        Ok(()) => Reply {
             number: 0,
             place: 0,
         },
-        Verdict::Refused(x) => fault_row(x),
+        Err(x) => fault_row(x),
     }
 }

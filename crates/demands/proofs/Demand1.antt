@@ -8,8 +8,8 @@ use Prim.Native.Nat.{ℕ, ◌*◌}
 use native.Mathlib.Omega.{arith}
 use lib.ListN.{length, drop}
 use denote.Ref.{Bor}
+use Rattle.std.specs.Prelude.{Result}
 use Rattle.base.specs.Checks.{Check, fine, refused}
-use Rattle.contents.specs.declared.Verdict.{Verdict}
 use Rattle.contents.specs.declared.Fault.{Fault}
 use Rattle.contents.specs.Replies.{verdict_of}
 use Rattle.score.specs.Piece.{decode}
@@ -108,11 +108,11 @@ rest-passing m room ms c e = (pass-keeps m room ms).after c e
 -- ---- no second outcome, call by call: the premises are the call's contract, of two outcomes
 
 -- `check_file`
-pub one-check : (f : List ℕ) (r s : Verdict) → r ≡ verdict_of (checked f) → s ≡ verdict_of (checked f) → r ≡ s
+pub one-check : (f : List ℕ) (r s : Result (Unit {0}) Fault) → r ≡ verdict_of (checked f) → s ≡ verdict_of (checked f) → r ≡ s
 one-check f r s p q = p ∙ sym q
 
 -- `label_reply`
-pub one-look-up : (f : List ℕ) (n : ℕ) (r s : Verdict) → r ≡ verdict_of (label_reply f n) → s ≡ verdict_of (label_reply f n) → r ≡ s
+pub one-look-up : (f : List ℕ) (n : ℕ) (r s : Result (Unit {0}) Fault) → r ≡ verdict_of (label_reply f n) → s ≡ verdict_of (label_reply f n) → r ≡ s
 one-look-up f n r s p q = p ∙ sym q
 
 -- `label`: where the part lies, and its bytes. The ghost name of a borrow is no part of an outcome.

@@ -7,11 +7,10 @@ use native.Mathlib.Omega.{arith}
 use lib.ListN.{length, take, drop, take-append-drop}
 use lib.Seq.{length-take-le}
 use borrow.Author.Rules.{rules}
+use Rattle.std.specs.Prelude.{Result, Ok, Err}
 use Rattle.ascii.specs.Laying.{Laid}
 use Rattle.contents.specs.declared.Counts.{Counts}
 use Rattle.contents.specs.declared.Fault.{Fault}
-use Rattle.contents.specs.declared.Verdict.{Verdict}
-use Rattle.contents.specs.declared.Verdict.TheVariants.{Fine, Refused}
 use Rattle.contents.specs.Limits.{event_size, item_size, message_size}
 use Rattle.contents.specs.Replies.{verdict_of}
 use Rattle.contents.proofs.Verdicts.{verdict-fine, verdict-refused}
@@ -55,12 +54,12 @@ pub ruleset joins = (durations-end, items-end, entries-end, labels-end, join-ask
 room-is : (o n bs : List ℕ) (r : ℕ) → Laid o 0 bs n r → n ≡ bs ++ drop r o
 room-is o n bs r laid = sym (take-append-drop r n) ∙ rw laid.others (ap (λ (l : List ℕ). l ++ drop r o) laid.front)
 
-module _ (f m : List ℕ) (v : Verdict) (e : v ≡ verdict_of (checked f)) where
-  pub settle-refused : (x : Fault) → v ≡ Refused x → Settled f m m (Refused x)
+module _ (f m : List ℕ) (v : Result (Unit {0}) Fault) (e : v ≡ verdict_of (checked f)) where
+  pub settle-refused : (r : Result (Unit {0}) Fault) (x : Fault) → v ≡ Err x → r ≡ Err x → Settled f m m r
   unfolding settled
-  settle-refused x p = record { verdict = sym p ∙ e; left = rw (verdict-refused (checked f) v x e p) }
+  settle-refused r x p q = record { verdict = q ∙ sym p ∙ e; left = rw (verdict-refused (checked f) v x e p) }
 
-  pub settle-made : v ≡ Fine → (m' : List ℕ) (r : ℕ) → Laid m 0 f m' r → Settled f m m' Fine
+  pub settle-made : v ≡ Ok tt → (m' : List ℕ) (r : ℕ) → Laid m 0 f m' r → Settled f m m' (Ok tt)
   unfolding settled
   settle-made p m' r put =
       let n : r ≡ length f = omega (arith, put.stop) in

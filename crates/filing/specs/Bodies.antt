@@ -1,9 +1,8 @@
 -- The bodies of a file at the fronts of lent bytes, the file of them, and what then stands in a lent room.
-use Rattle.std.specs.Prelude.{ℕ, ◌*◌, ◌≤◌, ◌≡◌, List, ◌++◌, length, take, drop}
+use Rattle.std.specs.Prelude.{ℕ, ◌*◌, ◌≤◌, ◌≡◌, List, ◌++◌, length, take, drop, Result}
 use Rattle.base.specs.Checks.{Check, fine, refused}
 use Rattle.contents.specs.declared.Counts.{Counts}
 use Rattle.contents.specs.declared.Fault.{Fault}
-use Rattle.contents.specs.declared.Verdict.{Verdict}
 use Rattle.contents.specs.Limits.{event_size, item_size, message_size, most_events, most_items, most_messages, most_text, longest_score}
 use Rattle.contents.specs.Inner.{Counted}
 use Rattle.contents.specs.Replies.{verdict_of}
@@ -34,6 +33,6 @@ unfoldable pub settled : Check Fault → (file room : List ℕ) → List ℕ
 settled fine f m = f ++ drop (length f) m
 settled (refused x) f m = m
 
-pub record Settled (f m new : List ℕ) (r : Verdict) : Type 0 where
+pub record Settled (f m new : List ℕ) (r : Result (Unit {0}) Fault) : Type 0 where
   pub verdict : r ≡ verdict_of (checked f)
   pub left : new ≡ settled (checked f) f m

@@ -6,7 +6,7 @@ ghost use Rattle.filing.specs.Bodies.{Bodies, file_in, Settled};
 use crate::files::put_file;
 use ascii::put_bytes;
 use contents::limits::{EVENT_SIZE, ITEM_SIZE, MESSAGE_SIZE};
-use contents::{Counts, Verdict};
+use contents::{Counts, Fault};
 use score::check_file;
 
 // The file of the bodies at the fronts of these bytes, from the front of `out`. Answers its length.
@@ -36,16 +36,11 @@ pub fn join(
 }
 
 // The file at the front of the room, where its check finds nothing wrong; before that the room is not touched.
-pub fn settle_file(file: &[u8], room: &mut [u8]) -> Verdict
+pub fn settle_file(file: &[u8], room: &mut [u8]) -> Result<(), Fault>
     requires { length file.now ≤ length room.old }
     ensures { Settled file.now room.old room.new result }
 {
-    let checked = check_file(file);
-    match checked {
-        Verdict::Fine => {
-            put_bytes(room, 0, file);
-            Verdict::Fine
-        }
-        Verdict::Refused(fault) => Verdict::Refused(fault),
-    }
+    check_file(file)?;
+    put_bytes(room, 0, file);
+    Ok(())
 }

@@ -8,14 +8,14 @@ use native.Mathlib.Omega.{arith}
 use lib.ListN.{length, take, drop, length-drop}
 use lib.Seq.{length-take-le}
 use borrow.Author.Tests.{eq-eqb, ne_eqb}
+use Rattle.std.specs.Prelude.{Result, Ok, Err}
 use Rattle.page.specs.declared.Item.{Item}
 use Rattle.base.specs.Tests.{pick}
 use Rattle.base.specs.Checks.{Check, fine, refused, is_fine}
+use Rattle.contents.specs.declared.Fault.{Fault}
 use Rattle.contents.specs.declared.ItemRule.{ItemRule}
 use Rattle.contents.specs.declared.Counts.{Counts}
 use Rattle.contents.specs.Limits.{item_size, most_actions}
-use Rattle.items.specs.declared.walk.Walk.{Walk}
-use Rattle.items.specs.declared.walk.Walk.TheVariants.{Actions, Stop}
 use Rattle.items.specs.declared.Setting.{Setting}
 use Rattle.items.specs.Items.{item_right, within_of, own_of, next, inside, onward, broken_at, on_from, walk_of, walked}
 use Rattle.items.specs.Inner.{broken_by}
@@ -44,14 +44,14 @@ module _ (i : Item) where
 
 -- ---- two walks, one after the other
 
-onward-same : (v w : Walk) (a b : ℕ → Walk) → v ≡ w → ((m : ℕ) → a m ≡ b m) → onward v a ≡ onward w b
+onward-same : (v w : Result ℕ Fault) (a b : ℕ → Result ℕ Fault) → v ≡ w → ((m : ℕ) → a m ≡ b m) → onward v a ≡ onward w b
 unfolding onward
-onward-same v (Actions n) a b e p = rw e (p n)
-onward-same v (Stop x) a b e p = rw e
+onward-same v (Ok n) a b e p = rw e (p n)
+onward-same v (Err x) a b e p = rw e
 
 -- ---- a wrong item stops the walk
 
-stop-here : (v : Check ItemRule) (at : ℕ) (w : Walk) → is_fine v ≡ false → on_from v at w ≡ Stop (broken_at at (broken_by v))
+stop-here : (v : Check ItemRule) (at : ℕ) (w : Result ℕ Fault) → is_fine v ≡ false → on_from v at w ≡ Err (broken_at at (broken_by v))
 unfolding is_fine on_from broken_by
 stop-here fine at w e = let z : ◌≡◌ {A = ℕ} 0 1 = cc in absurd (omega arith)
 stop-here (refused r) at w e = refl
@@ -90,7 +90,7 @@ bound c (suc x) (suc y) at (i ∷ is) h n p q = bound-step c x y (bound c x y) a
 
 -- ---- one step of the walk
 
-pub walked_end : (c : Counts) (at : ℕ) (h : Setting) (n : ℕ) → walked c at [] h n ≡ Actions n
+pub walked_end : (c : Counts) (at : ℕ) (h : Setting) (n : ℕ) → walked c at [] h n ≡ Ok n
 unfolding walked walk_of
 walked_end c at h n = refl
 
@@ -106,12 +106,12 @@ module _ (c : Counts) (at : ℕ) (i : Item) (is : List Item) (h : Setting) (n : 
       (onward-same _ _ _ _ (bound c (length is) (length (take (within_of i) is)) (at + item_size) (take (within_of i) is) _ _ (take-few (length is) (within_of i) is (omega arith) l) (omega arith))
       (λ m. bound c (length is) (length (drop (within_of i) is)) _ (drop (within_of i) is) _ m (drop-few (length is) (within_of i) is (omega arith)) (omega arith)))
 
-  pub walked-wrong : is_fine (item_right i c h (length is) n) ≡ false → walked c at (i ∷ is) h n ≡ Stop (broken_at at (broken_by (item_right i c h (length is) n)))
+  pub walked-wrong : is_fine (item_right i c h (length is) n) ≡ false → walked c at (i ∷ is) h n ≡ Err (broken_at at (broken_by (item_right i c h (length is) n)))
   unfolding walked walk_of
   walked-wrong e = stop-here (item_right i c h (length is) n) at _ e
 
 -- ---- a walk that ends has met no 1,025th action
 
-pub walked-small : (c : Counts) (at : ℕ) (is : List Item) (h : Setting) (n m : ℕ) (w : Walk) → n ≤ most_actions → w ≡ walked c at is h n → w ≡ Actions m → m ≤ most_actions
+pub walked-small : (c : Counts) (at : ℕ) (is : List Item) (h : Setting) (n m : ℕ) (w : Result ℕ Fault) → n ≤ most_actions → w ≡ walked c at is h n → w ≡ Ok m → m ≤ most_actions
 unfolding walked
 walked-small c at is h n m w p e q = walked-few (walk-walked (length is) c at is h n m (omega arith) (sym e ∙ q)) p

@@ -7,6 +7,7 @@ use Prim.Native.Nat.{ℕ, ◌+◌, ◌-◌, ◌*◌, ◌<◌, ◌≤◌}
 use native.Mathlib.Omega.{arith}
 use lib.ListN.{length}
 use borrow.Author.Rules.{rules}
+use Rattle.std.specs.Prelude.{Result, Ok, Err}
 use Rattle.page.specs.declared.Item.{Item}
 use Rattle.base.specs.Tests.{pick}
 use Rattle.base.specs.Checks.{fine, is_fine}
@@ -19,12 +20,10 @@ use Rattle.contents.specs.declared.RuleRow.{RuleRow}
 use Rattle.contents.specs.declared.Counts.{Counts}
 use Rattle.contents.specs.Limits.{item_size, most_actions}
 use Rattle.contents.specs.Replies.{rule_row}
-use Rattle.items.specs.declared.walk.Walk.{Walk}
-use Rattle.items.specs.declared.walk.Walk.TheVariants.{Actions, Stop}
 use Rattle.items.specs.declared.Setting.{Setting}
 use Rattle.items.specs.declared.walk.Step.{Step}
 use Rattle.items.specs.Items.{item_at, items_from, item_right, within_of, own_of, next, inside, onward, broken_at, walked}
-use Rattle.items.specs.Inner.{step_of, refusal, broken_by, judged, StepFits, Room}
+use Rattle.items.specs.Inner.{step_of, broken_by, judged, StepFits, Room}
 use Rattle.items.proofs.Decoded.{items-length, items-none, items_more, items-take, items-drop}
 use Rattle.contents.proofs.RuleRows.{field-within}
 use Rattle.items.proofs.Walked.{right-item, within-left, own_room}
@@ -33,7 +32,7 @@ use Rattle.items.proofs.WalkLaws.{within-action, within_group, own-action, own-g
 -- ---- the step after a right item
 
 module _ (i : Item) (left n : ℕ) (room : Room i left n) (s : Step) where
-  module _ (action : i.kind ≡ 0) (e : s ≡ record { right = true; body = 0; after = left; actions = n + 1; event = i.event; part = i.part }) where
+  module _ (action : i.kind ≡ 0) (e : s ≡ record { body = 0; after = left; actions = n + 1; event = i.event; part = i.part }) where
     pub action-step : s ≡ step_of i left n
     unfolding step_of
     action-step =
@@ -49,7 +48,7 @@ module _ (i : Item) (left n : ℕ) (room : Room i left n) (s : Step) where
         let b : n + own_of i ≤ most_actions = room.own in
         rw e (record { sum = omega arith; few = omega arith })
 
-  module _ (group : i.kind ≡ 0 → ⊥) (e : s ≡ record { right = true; body = i.last; after = left - i.last; actions = n; event = i.event; part = i.part }) where
+  module _ (group : i.kind ≡ 0 → ⊥) (e : s ≡ record { body = i.last; after = left - i.last; actions = n; event = i.event; part = i.part }) where
     pub group-step : s ≡ step_of i left n
     unfolding step_of
     group-step =
@@ -75,28 +74,39 @@ module _ (i : Item) (c : Counts) (h : Setting) (left n : ℕ) (t : Bool) (told :
   pub right-room : n ≤ most_actions → not t ≡ false → Room i left n
   right-room m p = let r = right-item i c h left n (fine-told _ (told-true t _ told p)) in record { body = within-left r; own = own_room r m }
 
-  module _ (j : Item) (s : Step) (same : i ≡ j) where
-    pub judged-right : not t ≡ false → s ≡ step_of i left n → s ≡ judged j c h left n
+  module _ (at : ℕ) (j : Item) (same : i ≡ j) where
+    pub judged-right : (s : Step) → not t ≡ false → s ≡ step_of i left n → Ok s ≡ judged at j c h left n
     unfolding judged pick
-    judged-right p q = rw (← same, told-true t _ told p) q
+    judged-right s p q = rw (← same, told-true t _ told p, q)
 
-    pub judged-wrong : not t ≡ true → s ≡ refusal left → s ≡ judged j c h left n
+    pub judged-wrong : (x : Fault) → not t ≡ true → x ≡ broken_at at (broken_by (item_right j c h left n)) → Err x ≡ judged at j c h left n
     unfolding judged pick
-    judged-wrong p q = rw (← same, told-false t _ told p) q
+    judged-wrong x p q = rw (← same, told-false t _ told p) (rw (q, ← same))
 
 pub ruleset judges = (right-room, judged-right, judged-wrong, action-step, action-bounded, group-step, group-bounded, group-last, rules)
 
-judged-verdict : (i : Item) (c : Counts) (h : Setting) (left n : ℕ) (b : Bool) → is_fine (item_right i c h left n) ≡ b → (judged i c h left n).right ≡ b
-unfolding judged pick step_of
-judged-verdict i c h left n true e = rw e
-judged-verdict i c h left n false e = rw e
+-- what an item judged says of its rules
+module _ (r : Result Step Fault) (at : ℕ) (i : Item) (c : Counts) (h : Setting) (left n : ℕ) (told : r ≡ judged at i c h left n) where
+  abbrev right : Bool
+  right = is_fine (item_right i c h left n)
 
-verdict : (s : Step) (i : Item) (c : Counts) (h : Setting) (left n : ℕ) → s ≡ judged i c h left n → s.right ≡ is_fine (item_right i c h left n)
-verdict s i c h left n e = rw e (judged-verdict i c h left n _ refl)
+  module _ (s : Step) (e : r ≡ Ok s) where
+    fine-by : (b : Bool) → right ≡ b → (right ≡ true) × (s ≡ step_of i left n)
+    unfolding judged pick
+    fine-by true q = (q, let z = rw q at told in cc)
+    fine-by false q = let z = rw q at told in absurd cc
 
-judged-step : (s : Step) (i : Item) (c : Counts) (h : Setting) (left n : ℕ) → s ≡ judged i c h left n → is_fine (item_right i c h left n) ≡ true → s ≡ step_of i left n
-unfolding judged pick
-judged-step s i c h left n e p = e ∙ rw p
+    judged-fine : (right ≡ true) × (s ≡ step_of i left n)
+    judged-fine = fine-by right refl
+
+  module _ (x : Fault) (e : r ≡ Err x) where
+    fault-by : (b : Bool) → right ≡ b → (right ≡ false) × (x ≡ broken_at at (broken_by (item_right i c h left n)))
+    unfolding judged pick
+    fault-by true q = let z = rw q at told in absurd cc
+    fault-by false q = (q, let z = rw q at told in cc)
+
+    judged-fault : (right ≡ false) × (x ≡ broken_at at (broken_by (item_right i c h left n)))
+    judged-fault = fault-by right refl
 
 -- ---- the fault of an item that is wrong
 
@@ -112,10 +122,10 @@ pub ruleset wrongs = (fault-told, rules)
 -- ---- the walk through the bytes
 
 -- what the count items from at on are found to be
-abbrev found : List ℕ → Counts → ℕ → ℕ → Setting → ℕ → Walk
+abbrev found : List ℕ → Counts → ℕ → ℕ → Setting → ℕ → Result ℕ Fault
 found f c at count h n = walked c at (items_from f at count) h n
 
-pub walk_none : (f : List ℕ) (c : Counts) (at count : ℕ) (h : Setting) (n : ℕ) (W : Walk) → count ≤ 0 → found f c at count h n ≡ W → Actions n ≡ W
+pub walk_none : (f : List ℕ) (c : Counts) (at count : ℕ) (h : Setting) (n : ℕ) (W : Result ℕ Fault) → count ≤ 0 → found f c at count h n ≡ W → Ok n ≡ W
 walk_none f c at count h n W p q = sym (rw (items-none f at count p) (walked_end c at h n)) ∙ q
 
 module _ (f : List ℕ) (c : Counts) (at count : ℕ) (h : Setting) (n : ℕ) (some : 0 < count) where
@@ -135,32 +145,34 @@ module _ (f : List ℕ) (c : Counts) (at count : ℕ) (h : Setting) (n : ℕ) (s
       rw (items_more f at count some)
       (step ∙ rw (items-take f (at + item_size) (count - 1) (within_of here) l, items-drop f (at + item_size) (count - 1) (within_of here) l))
 
-  found-wrong : is_fine (item_right here c h (count - 1) n) ≡ false → found f c at count h n ≡ Stop (broken_at at (broken_by (item_right here c h (count - 1) n)))
+  found-wrong : is_fine (item_right here c h (count - 1) n) ≡ false → found f c at count h n ≡ Err (broken_at at (broken_by (item_right here c h (count - 1) n)))
   found-wrong e =
       let stop = walked-wrong c at here (items_from f (at + item_size) (count - 1)) h n (rw rest-length e) in
       rw (items_more f at count some) (rw rest-length at stop)
 
-module _ (f : List ℕ) (c : Counts) (at count depth event part n : ℕ) (W : Walk) (s : Step) (some : 0 < count)
-    (es : s ≡ judged (item_at f at) c (record { depth = depth; event = event; part = part }) (count - 1) n) where
+module _ (f : List ℕ) (c : Counts) (at count depth event part n : ℕ) (W : Result ℕ Fault) (r : Result Step Fault) (some : 0 < count)
+    (told : r ≡ judged at (item_at f at) c (record { depth = depth; event = event; part = part }) (count - 1) n) where
   abbrev around : Setting
   around = record { depth = depth; event = event; part = part }
 
-  pub walk-stop : (x : Fault) → not s.right ≡ true → x ≡ broken_at at (broken_by (item_right (item_at f at) c around (count - 1) n)) → found f c at count around n ≡ W → Stop x ≡ W
-  walk-stop x p e q = ap Stop e ∙ sym (found-wrong f c at count around n some (told-false s.right _ (verdict s _ c around (count - 1) n es) p)) ∙ q
+  pub walk-stop : (x : Fault) → r ≡ Err x → found f c at count around n ≡ W → Err x ≡ W
+  walk-stop x p q =
+      let e = judged-fault r at (item_at f at) c around (count - 1) n told x p in
+      rw e.1 (sym (found-wrong f c at count around n some e.0) ∙ q)
 
-  module _ (w : Walk) (p : not s.right ≡ false) (ew : w ≡ found f c (at + item_size) s.body (record { depth = depth + 1; event = 0; part = s.part }) s.actions) where
+  module _ (s : Step) (w : Result ℕ Fault) (p : r ≡ Ok s) (ew : w ≡ found f c (at + item_size) s.body (record { depth = depth + 1; event = 0; part = s.part }) s.actions) where
     through : found f c at count around n ≡ onward w (λ m. found f c (at + item_size + item_size * s.body) s.after (record { depth = depth; event = s.event; part = s.part }) m)
     unfolding step_of next inside
     through =
-        let r = told-true s.right _ (verdict s _ c around (count - 1) n es) p in
-        rw (ew, judged-step s _ c around (count - 1) n es r)
-        (found_right f c at count around n some (fine-told _ r))
+        let e = judged-fine r at (item_at f at) c around (count - 1) n told s p in
+        rw (ew, e.1)
+        (found_right f c at count around n some (fine-told _ e.0))
 
-    pub walk-body-stop : (x : Fault) → w ≡ Stop x → found f c at count around n ≡ W → w ≡ W
+    pub walk-body-stop : (x : Fault) → w ≡ Err x → found f c at count around n ≡ W → w ≡ W
     unfolding onward
     walk-body-stop x e r = e ∙ sym (rw e at through) ∙ r
 
-    pub walk_step : (m : ℕ) → w ≡ Actions m → found f c at count around n ≡ W
+    pub walk_step : (m : ℕ) → w ≡ Ok m → found f c at count around n ≡ W
         → found f c (at + (item_size + item_size * s.body)) s.after (record { depth = depth; event = s.event; part = s.part }) m ≡ W
     unfolding onward
     walk_step m e r =

@@ -9,17 +9,17 @@ use lib.Dec.{leb, eqb}
 use lib.ListN.{length, take, drop, length-drop, take-append-drop}
 use lib.Seq.{length-take-le}
 use borrow.Author.Tests.{leb-true, ltb-true, eqb-true, eq-eqb, ne_eqb}
+use Rattle.std.specs.Prelude.{Result, Ok, Err}
 use Rattle.page.specs.declared.Item.{Item}
 use Rattle.base.specs.Tests.{pick, every, between}
 use Rattle.base.specs.Checks.{Check, fine, refused}
 use Rattle.base.proofs.TestLaws.{every-head, every_rest, between-low, between-high}
 use Rattle.base.proofs.CheckLaws.{first_rest, first_holds}
+use Rattle.contents.specs.declared.Fault.{Fault}
 use Rattle.contents.specs.declared.ItemRule.{ItemRule}
 use Rattle.contents.specs.declared.Counts.{Counts}
 use Rattle.contents.specs.Limits.{longest, most_actions, last_part, deepest}
 use Rattle.contents.specs.Contents.{items_at}
-use Rattle.items.specs.declared.walk.Walk.{Walk}
-use Rattle.items.specs.declared.walk.Walk.TheVariants.{Actions, Stop}
 use Rattle.items.specs.declared.Setting.{Setting}
 use Rattle.items.specs.Items.{is_action, is_top, synchrony_right, error_right, part_right, in_order, event_right, nesting_right, number_right, actions_right, item_right, within_of, own_of, next, inside, onward, on_from, walk_of, walked, outset, walk_fault, items_right}
 
@@ -123,20 +123,20 @@ pub data Walked (c : Counts) : (h : Setting) (n : ℕ) → List Item → (m : �
       → Walked c (next i h) k l m → Walked c h n (i ∷ (b ++ l)) m
 
 -- A walk in two parts that ends: so does the first, and the second from there.
-onward-ended : (w : Walk) (on : ℕ → Walk) (m : ℕ) → onward w on ≡ Actions m → (k : ℕ) × (w ≡ Actions k) × (on k ≡ Actions m)
+onward-ended : (w : Result ℕ Fault) (on : ℕ → Result ℕ Fault) (m : ℕ) → onward w on ≡ Ok m → (k : ℕ) × (w ≡ Ok k) × (on k ≡ Ok m)
 unfolding onward
-onward-ended (Actions k) on m e = (k, refl, e)
-onward-ended (Stop x) on m e = let z : ◌≡◌ {A = ℕ} 0 1 = cc in absurd (omega arith)
+onward-ended (Ok k) on m e = (k, refl, e)
+onward-ended (Err x) on m e = let z : ◌≡◌ {A = ℕ} 0 1 = cc in absurd (omega arith)
 
-item-passed : (v : Check ItemRule) (at : ℕ) (w : Walk) (m : ℕ) → on_from v at w ≡ Actions m → (v ≡ fine) × (w ≡ Actions m)
+item-passed : (v : Check ItemRule) (at : ℕ) (w : Result ℕ Fault) (m : ℕ) → on_from v at w ≡ Ok m → (v ≡ fine) × (w ≡ Ok m)
 unfolding on_from
 item-passed fine at w m e = (refl, e)
 item-passed (refused r) at w m e = let z : ◌≡◌ {A = ℕ} 0 1 = cc in absurd (omega arith)
 
-none-walked : (c : Counts) (h : Setting) (n m : ℕ) → Actions n ≡ Actions m → Walked c h n [] m
+none-walked : (c : Counts) (h : Setting) (n m : ℕ) → ◌≡◌ {A = Result ℕ Fault} (Ok n) (Ok m) → Walked c h n [] m
 none-walked c h n m e = let q : n ≡ m = cc in rw (← q) walked_none
 
-pub walk-walked : (x : ℕ) (c : Counts) (at : ℕ) (is : List Item) (h : Setting) (n m : ℕ) → length is ≤ x → walk_of x c at is h n ≡ Actions m → Walked c h n is m
+pub walk-walked : (x : ℕ) (c : Counts) (at : ℕ) (is : List Item) (h : Setting) (n m : ℕ) → length is ≤ x → walk_of x c at is h n ≡ Ok m → Walked c h n is m
 unfolding walk_of
 walk-walked zero c at [] h n m l e = none-walked c h n m e
 walk-walked zero c at (i ∷ is) h n m l e = absurd (omega arith)
@@ -154,10 +154,10 @@ walk-walked (suc x) c at (i ∷ is) h n m l e =
     (walk-walked x c _ (take k is) (inside i h) _ _ (omega (arith, within-left r)) ended.1)
     (walk-walked x c _ (drop k is) (next i h) _ m d ended.2))
 
-walk-ended : (w : Walk) → walk_fault w ≡ fine → (m : ℕ) × (w ≡ Actions m)
+walk-ended : (w : Result ℕ Fault) → walk_fault w ≡ fine → (m : ℕ) × (w ≡ Ok m)
 unfolding walk_fault
-walk-ended (Actions m) e = (m, refl)
-walk-ended (Stop x) e = let z : ◌≡◌ {A = ℕ} 0 1 = cc in absurd (omega arith)
+walk-ended (Ok m) e = (m, refl)
+walk-ended (Err x) e = let z : ◌≡◌ {A = ℕ} 0 1 = cc in absurd (omega arith)
 
 pub table-walked : (c : Counts) (is : List Item) → items_right c is ≡ fine → (m : ℕ) × Walked c outset 0 is m
 unfolding items_right walked

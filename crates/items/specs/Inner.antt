@@ -1,15 +1,16 @@
 -- What the steps of the walk ask and answer. No promise of a call of document 01 needs it.
-use Rattle.std.specs.Prelude.{◌≡◌, ℕ, ◌+◌, ◌-◌, ◌*◌, ◌≤◌, Bool, true, false, [], ◌∷◌}
+use Rattle.std.specs.Prelude.{◌≡◌, ℕ, ◌+◌, ◌-◌, ◌*◌, ◌≤◌, Bool, [], ◌∷◌, Result, Ok, Err}
 use Rattle.page.specs.declared.Item.{Item}
 use Rattle.base.specs.Tests.{pick, every}
 use Rattle.base.specs.Checks.{Check, fine, refused, is_fine}
+use Rattle.contents.specs.declared.Fault.{Fault}
 use Rattle.contents.specs.declared.ItemRule.{ItemRule}
 use Rattle.contents.specs.declared.ItemRule.TheVariants as rule
 use Rattle.contents.specs.declared.Counts.{Counts}
 use Rattle.contents.specs.Limits.{most_items, most_actions, item_size}
 use Rattle.items.specs.declared.Setting.{Setting}
 use Rattle.items.specs.declared.walk.Step.{Step}
-use Rattle.items.specs.Items.{kind_right, synchrony_right, error_right, part_right, delay_right, event_right, nesting_right, number_right, actions_right, item_right, within_of, own_of}
+use Rattle.items.specs.Items.{kind_right, synchrony_right, error_right, part_right, delay_right, event_right, nesting_right, number_right, actions_right, item_right, within_of, own_of, broken_at}
 
 -- What an item says by itself and by its group, and how it stands in the table: the rules of an item, in two halves.
 unfoldable pub fields_right : Item → Setting → Bool
@@ -23,16 +24,14 @@ unfoldable pub broken_by : Check ItemRule → ItemRule
 broken_by fine = rule.Actions
 broken_by (refused r) = r
 
--- What the walk goes on with after an item that is right, and the step that stands for a wrong one.
+-- What the walk goes on with after an item that is right.
 unfoldable pub step_of : Item → ℕ → ℕ → Step
-step_of i left actions =
-    record { right = true; body = within_of i; after = left - within_of i; actions = actions + own_of i; event = i.event; part = i.part }
+step_of i left actions = record { body = within_of i; after = left - within_of i; actions = actions + own_of i; event = i.event; part = i.part }
 
-abbrev pub refusal : ℕ → Step
-refusal left = record { right = false; body = 0; after = left; actions = 0; event = 0; part = 0 }
-
-unfoldable pub judged : Item → Counts → Setting → ℕ → ℕ → Step
-judged i c h left actions = pick (is_fine (item_right i c h left actions)) (step_of i left actions) (refusal left)
+-- The item at the byte at: what the walk goes on with, or the fault.
+unfoldable pub judged : (at : ℕ) → Item → Counts → Setting → ℕ → ℕ → Result Step Fault
+judged at i c h left actions =
+    pick (is_fine (item_right i c h left actions)) (Ok (step_of i left actions)) (Err (broken_at at (broken_by (item_right i c h left actions))))
 
 -- What holds of any step, so that its numbers fit.
 pub record StepFits (left : ℕ) (s : Step) : Type 0 where

@@ -1,5 +1,5 @@
 -- "Item: 12 bytes: kind, synchrony, error word, part, delay (u32), event (u16), last (u16)." What an item is, and which items are right where.
-use Rattle.std.specs.Prelude.{ℕ, zero, suc, ◌+◌, ◌*◌, Bool, true, List, [], ◌∷◌, length, take, drop, leb, ltb, eqb}
+use Rattle.std.specs.Prelude.{ℕ, zero, suc, ◌+◌, ◌*◌, Bool, true, List, [], ◌∷◌, length, take, drop, leb, ltb, eqb, Result, Ok, Err}
 use Rattle.page.specs.declared.Item.{Item}
 use Rattle.base.specs.Tests.{pick, every, between}
 use Rattle.base.specs.Checks.{Check, fine, refused, need, first_fault}
@@ -12,8 +12,6 @@ use Rattle.contents.specs.Limits.{item_size, longest, most_actions, last_part, d
 use Rattle.contents.specs.Bytes.{byte_at, u16_at, u32_at}
 use Rattle.contents.specs.Contents.{items_at}
 use Rattle.contents.specs.Replies.{rule_row}
-use Rattle.items.specs.declared.walk.Walk.{Walk}
-use Rattle.items.specs.declared.walk.Walk.TheVariants.{Actions, Stop}
 use Rattle.items.specs.declared.Setting.{Setting}
 
 unfoldable pub item_at : List ℕ → ℕ → Item
@@ -115,30 +113,30 @@ unfoldable pub inside : Item → Setting → Setting
 inside i h = record { depth = h.depth + 1; event = 0; part = i.part }
 
 -- The one walk, then the other, from as many actions as the first found.
-unfoldable pub onward : Walk → (ℕ → Walk) → Walk
-onward (Actions n) more = more n
-onward (Stop x) more = Stop x
+unfoldable pub onward : Result ℕ Fault → (ℕ → Result ℕ Fault) → Result ℕ Fault
+onward (Ok n) more = more n
+onward (Err x) more = Err x
 
 -- An item at the byte at that breaks a rule: at "the place of the field".
 abbrev pub broken_at : (at : ℕ) → ItemRule → Fault
 broken_at at r = BadItem r (at + (rule_row r).offset)
 
 -- On from an item at the byte at; from a wrong one no further.
-unfoldable pub on_from : Check ItemRule → (at : ℕ) → Walk → Walk
+unfoldable pub on_from : Check ItemRule → (at : ℕ) → Result ℕ Fault → Result ℕ Fault
 on_from fine at w = w
-on_from (refused r) at w = Stop (broken_at at r)
+on_from (refused r) at w = Err (broken_at at r)
 
 -- Each item, then those within it, then those after it: how many actions there are, or the fault of the first wrong one. The first of them stands at the byte at;
 -- the first number only bounds the recursion, and is at least their count.
-unfoldable pub walk_of : ℕ → Counts → ℕ → List Item → Setting → ℕ → Walk
-walk_of zero c at is h actions = Actions actions
-walk_of (suc n) c at [] h actions = Actions actions
+unfoldable pub walk_of : ℕ → Counts → ℕ → List Item → Setting → ℕ → Result ℕ Fault
+walk_of zero c at is h actions = Ok actions
+walk_of (suc n) c at [] h actions = Ok actions
 walk_of (suc n) c at (i ∷ is) h actions =
     on_from (item_right i c h (length is) actions) at
     (onward (walk_of n c (at + item_size) (take (within_of i) is) (inside i h) (actions + own_of i))
     (λ m. walk_of n c (at + item_size + item_size * within_of i) (drop (within_of i) is) (next i h) m))
 
-unfoldable pub walked : Counts → ℕ → List Item → Setting → ℕ → Walk
+unfoldable pub walked : Counts → ℕ → List Item → Setting → ℕ → Result ℕ Fault
 walked c at is h actions = walk_of (length is) c at is h actions
 
 -- Before the first top item.
@@ -146,9 +144,9 @@ abbrev pub outset : Setting
 outset = record { depth = 1; event = 0; part = 0 }
 
 -- The fault that a walk stopped with, if it did.
-unfoldable pub walk_fault : Walk → Check Fault
-walk_fault (Actions n) = fine
-walk_fault (Stop x) = refused x
+unfoldable pub walk_fault : Result ℕ Fault → Check Fault
+walk_fault (Ok n) = fine
+walk_fault (Err x) = refused x
 
 unfoldable pub items_right : Counts → List Item → Check Fault
 items_right c is = walk_fault (walked c (items_at c) is outset 0)

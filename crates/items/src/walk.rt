@@ -1,29 +1,21 @@
 // The walk of the item table: each item, then those within it, then those after it.
-ghost use Rattle.std.specs.Prelude.{◌≡◌, true, ◌+◌, ◌*◌, ◌≤◌, length};
+ghost use Rattle.std.specs.Prelude.{◌≡◌, ◌+◌, ◌*◌, ◌≤◌, length, IfOk};
 ghost use Rattle.contents.specs.Limits.{item_size, most_actions};
 ghost use Rattle.contents.specs.Replies.{verdict_of};
 ghost use Rattle.contents.specs.Contents.{items_at};
 ghost use Rattle.contents.specs.Inner.{Sized};
 ghost use Rattle.items.specs.Items.{item_at, items_from, item_right, broken_at, walked, items_right};
-ghost use Rattle.items.specs.Inner.{step_of, refusal, judged, broken_by, StepFits, Room, Walkable};
+ghost use Rattle.items.specs.Inner.{step_of, judged, broken_by, StepFits, Room, Walkable};
 
 use crate::broken::rule_broken;
 use crate::{Setting, item_at, item_right};
 use contents::limits::ITEM_SIZE;
-use contents::{Counts, Fault, Verdict, items_at, rule_row};
+use contents::{Counts, Fault, items_at, rule_row};
 use page::Item;
 
-// How a walk of items ends: with so many actions, or with the fault of the first bad item.
-#[derive(Clone, Copy)]
-pub enum Walk {
-    Actions(usize),
-    Stop(Fault),
-}
-
-// What the walk goes on with after an item: the items within it and after it, the actions so far, and its event and part.
+// What the walk goes on with after a right item: the items within it and after it, the actions so far, and its event and part.
 #[derive(Clone, Copy)]
 pub struct Step {
-    pub right: bool,
     pub body: usize,
     pub after: usize,
     pub actions: usize,
@@ -33,10 +25,9 @@ pub struct Step {
 
 // What the walk goes on with after a right item of this event and part.
 fn going_on(event: usize, part: usize, body: usize, after: usize, actions: usize) -> Step
-    ensures { result ≡ record { right = true; body = body; after = after; actions = actions; event = event; part = part } }
+    ensures { result ≡ record { body = body; after = after; actions = actions; event = event; part = part } }
 {
     Step {
-        right: true,
         body,
         after,
         actions,
@@ -55,32 +46,6 @@ fn accepted(i: Item, left: usize, actions: usize) -> Step
     going_on(i.event, i.part, i.last, left - i.last, actions)
 }
 
-// What stands for a wrong one.
-fn refused(left: usize) -> Step
-    ensures { (result ≡ refusal left) × StepFits left result }
-{
-    Step {
-        right: false,
-        body: 0,
-        after: left,
-        actions: 0,
-        event: 0,
-        part: 0,
-    }
-}
-
-// The item at the byte `at`, which `left` items follow within what holds it.
-fn judge(file: &[u8], c: Counts, at: usize, h: Setting, left: usize, actions: usize) -> Step
-    requires { (at + item_size ≤ length file.now) × (actions ≤ most_actions) }
-    ensures { (result ≡ judged (item_at file.now at) c h left actions) × StepFits left result }
-{
-    let i = item_at(file, at);
-    if !item_right(i, c, h, left, actions) {
-        return refused(left);
-    }
-    accepted(i, left, actions)
-}
-
 // The fault of a wrong item at the byte `at`: the first rule that it breaks, at the rule's field.
 fn fault_at(file: &[u8], c: Counts, at: usize, h: Setting, left: usize, actions: usize) -> Fault
     requires { at + item_size ≤ length file.now }
@@ -92,8 +57,36 @@ fn fault_at(file: &[u8], c: Counts, at: usize, h: Setting, left: usize, actions:
     Fault::BadItem(rule, place)
 }
 
-// The `count` items from the byte `at` on, and all within them. The items of a group are fewer than those of what holds it.
-fn walk_items(file: &[u8], c: Counts, at: usize, count: usize, h: Setting, actions: usize) -> Walk
+// The item at the byte `at`, which `left` items follow within what holds it.
+fn judge(
+    file: &[u8],
+    c: Counts,
+    at: usize,
+    h: Setting,
+    left: usize,
+    actions: usize,
+) -> Result<Step, Fault>
+    requires { (at + item_size ≤ length file.now) × (actions ≤ most_actions) }
+    ensures told { result ≡ judged at (item_at file.now at) c h left actions }
+    ensures fits { IfOk result (StepFits left) }
+{
+    let i = item_at(file, at);
+    if !item_right(i, c, h, left, actions) {
+        return Err(fault_at(file, c, at, h, left, actions));
+    }
+    Ok(accepted(i, left, actions))
+}
+
+// The `count` items from the byte `at` on, and all within them: how many actions there are then, or the fault of the first bad item. The items of a group are fewer than those of
+// what holds it.
+fn walk_items(
+    file: &[u8],
+    c: Counts,
+    at: usize,
+    count: usize,
+    h: Setting,
+    actions: usize,
+) -> Result<usize, Fault>
     requires { Walkable (length file.now) at count h actions }
     ensures { result ≡ walked c at (items_from file.now at count) h actions }
 {
@@ -105,30 +98,22 @@ fn walk_items(file: &[u8], c: Counts, at: usize, count: usize, h: Setting, actio
     let depth = h.depth;
     while 0 < left {
         let around = Setting { depth, event, part };
-        let s = judge(file, c, i, around, left - 1, n);
-        if !s.right {
-            return Walk::Stop(fault_at(file, c, i, around, left - 1, n));
-        }
-        let body = s.body;
+        let s = judge(file, c, i, around, left - 1, n)?;
         let inner = Setting {
             depth: depth + 1,
             event: 0,
             part: s.part,
         };
-        let w = walk_items(file, c, i + ITEM_SIZE, body, inner, s.actions);
-        let Walk::Actions(m) = w else {
-            return w;
-        };
-        n = m;
+        n = walk_items(file, c, i + ITEM_SIZE, s.body, inner, s.actions)?;
         event = s.event;
         part = s.part;
-        i += ITEM_SIZE + ITEM_SIZE * body;
+        i += ITEM_SIZE + ITEM_SIZE * s.body;
         left = s.after;
     }
-    Walk::Actions(n)
+    Ok(n)
 }
 
-pub fn check_items(file: &[u8], c: Counts) -> Verdict
+pub fn check_items(file: &[u8], c: Counts) -> Result<(), Fault>
     requires { Sized c (length file.now) }
     ensures { result ≡ verdict_of (items_right c (items_from file.now (items_at c) c.items)) }
 {
@@ -137,9 +122,6 @@ pub fn check_items(file: &[u8], c: Counts) -> Verdict
         event: 0,
         part: 0,
     };
-    let w = walk_items(file, c, items_at(c), c.items, outset, 0);
-    match w {
-        Walk::Actions(_) => Verdict::Fine,
-        Walk::Stop(x) => Verdict::Refused(x),
-    }
+    walk_items(file, c, items_at(c), c.items, outset, 0)?;
+    Ok(())
 }

@@ -9,11 +9,11 @@ use lib.ListN.{length}
 use lib.Dec.{leb, eqb}
 use borrow.Author.Tests.{eq-eqb, ne_eqb}
 use borrow.Author.Rules.{rules}
+use Rattle.std.specs.Prelude.{Ok, Err}
 use Rattle.base.specs.Tests.{every, between}
 use Rattle.base.specs.Checks.{Check, need, first_fault}
 use Rattle.base.proofs.TestLaws.{every-pass, every-stop, every-last, told-true, told-false, tests}
 use Rattle.contents.specs.declared.Fault.{Fault}
-use Rattle.contents.specs.declared.Verdict.TheVariants.{Fine, Refused}
 use Rattle.contents.specs.declared.Fault.TheVariants.{BadMessage, TextLeft}
 use Rattle.contents.specs.declared.Counts.{Counts}
 use Rattle.contents.specs.Limits.{message_size, longest_label}
@@ -63,16 +63,16 @@ pub messages-here : (f : List ℕ) (c : Counts) (at i count from : ℕ) → i �
 messages-here f c at i count from e = rw e
 
 module _ (f : List ℕ) (c : Counts) (at count from : ℕ) (W : Check Fault) where
-  pub messages-unused : count ≤ 0 → (from ≡ c.text → ⊥) → messages_right f c at count from ≡ W → Refused TextLeft ≡ verdict_of W
+  pub messages-unused : count ≤ 0 → (from ≡ c.text → ⊥) → messages_right f c at count from ≡ W → Err TextLeft ≡ verdict_of W
   unfolding verdict_of need
   messages-unused p h q = rw (← q, messages-none f c at count from p, ne_eqb from c.text h)
 
-  pub messages-used : count ≤ 0 → from ≡ c.text → messages_right f c at count from ≡ W → Fine ≡ verdict_of W
+  pub messages-used : count ≤ 0 → from ≡ c.text → messages_right f c at count from ≡ W → Ok tt ≡ verdict_of W
   unfolding verdict_of need
   messages-used p h q = rw (← q, messages-none f c at count from p, eq-eqb from c.text h)
 
   module _ (t : Bool) (some : 0 < count) (e : t ≡ message_right f c at from) where
-    pub messages-bad : not t ≡ true → messages_right f c at count from ≡ W → Refused (BadMessage at) ≡ verdict_of W
+    pub messages-bad : not t ≡ true → messages_right f c at count from ≡ W → Err (BadMessage at) ≡ verdict_of W
     messages-bad h q = rw (← q, messages-more f c at count from some) (verdict-stop _ _ _ (told-false t _ e h))
 
     pub messages-step : (n : ℕ) → not t ≡ false → n ≡ u16_at f (at + 2) → messages_right f c at count from ≡ W

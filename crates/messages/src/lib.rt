@@ -11,7 +11,7 @@ ghost use Rattle.messages.specs.Messages.{label_byte, readable, message_right, m
 
 use contents::bytes::read16;
 use contents::limits::{LONGEST_LABEL, MESSAGE_SIZE};
-use contents::{Counts, Fault, Verdict, messages_at, text_at};
+use contents::{Counts, Fault, messages_at, text_at};
 
 // "Label bytes are 32 to 255 but not 127", by range.
 fn label_byte(b: u8) -> bool
@@ -64,7 +64,7 @@ fn message_right(file: &[u8], c: Counts, at: usize, from: usize) -> bool
     label_bytes(file, text_at(c) + from, size)
 }
 
-pub fn check_messages(file: &[u8], c: Counts) -> Verdict
+pub fn check_messages(file: &[u8], c: Counts) -> Result<(), Fault>
     requires { Sized c (length file.now) }
     ensures { result ≡ verdict_of (messages_right file.now c (messages_at c) c.messages 0) }
 {
@@ -73,14 +73,14 @@ pub fn check_messages(file: &[u8], c: Counts) -> Verdict
     let mut from = 0;
     while 0 < left {
         if !message_right(file, c, i, from) {
-            return Verdict::Refused(Fault::BadMessage(i));
+            return Err(Fault::BadMessage(i));
         }
         from += read16(file, i + 2);
         i += MESSAGE_SIZE;
         left -= 1;
     }
     if from != c.text {
-        return Verdict::Refused(Fault::TextLeft);
+        return Err(Fault::TextLeft);
     }
-    Verdict::Fine
+    Ok(())
 }

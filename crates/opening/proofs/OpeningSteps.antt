@@ -6,11 +6,10 @@ use Prim.Native.Nat.{ℕ, ◌+◌}
 use lib.Count.{ones}
 use lib.ListN.{length}
 use borrow.Author.Rules.{rules}
+use Rattle.std.specs.Prelude.{Result, Ok, Err}
 use Rattle.base.specs.Checks.{Check, fine, refused, first_fault, renamed}
 use Rattle.base.proofs.CheckLaws.{renamed-pass, renamed-stop, faults}
 use Rattle.contents.specs.declared.Fault.{Fault}
-use Rattle.contents.specs.declared.Verdict.{Verdict}
-use Rattle.contents.specs.declared.Verdict.TheVariants.{Fine, Refused as faulty}
 use Rattle.contents.specs.Replies.{verdict_of}
 use Rattle.contents.specs.Contents.{counts_of}
 use Rattle.score.specs.File.{checked}
@@ -28,11 +27,11 @@ use Rattle.opening.specs.Opening.{with_words, starts_of, cleared, new_session, o
 
 -- ---- the file check's verdict among the opening's checks
 
-pub file-pass : (f : List ℕ) (v : Verdict) (r : Check Refusal) (l : List (Check Refusal)) → v ≡ verdict_of (checked f) → v ≡ Fine → r ≡ first_fault l
+pub file-pass : (f : List ℕ) (v : Result (Unit {0}) Fault) (r : Check Refusal) (l : List (Check Refusal)) → v ≡ verdict_of (checked f) → v ≡ Ok tt → r ≡ first_fault l
     → r ≡ first_fault (renamed File (checked f) ∷ l)
 file-pass f v r l e p q = renamed-pass File _ r l (verdict-fine _ v e p) q
 
-pub file-stop : (f : List ℕ) (v : Verdict) (x : Fault) (l : List (Check Refusal)) → v ≡ verdict_of (checked f) → v ≡ faulty x
+pub file-stop : (f : List ℕ) (v : Result (Unit {0}) Fault) (x : Fault) (l : List (Check Refusal)) → v ≡ verdict_of (checked f) → v ≡ Err x
     → refused (File x) ≡ first_fault (renamed File (checked f) ∷ l)
 file-stop f v x l e p = renamed-stop File _ x l (verdict-refused _ v x e p)
 

@@ -10,7 +10,6 @@ ghost use Rattle.fates.specs.Fields.{item_word};
 ghost use Rattle.session.specs.Layout.{memory_size, mark_at, starts_at, page_at, tempo_at, mark};
 ghost use Rattle.opening.specs.Opening.{with_words, starts_of, cleared, new_session, opened};
 
-use contents::Verdict;
 use fates::words::item_word;
 use session::Refusal;
 use session::layout::{
@@ -115,7 +114,7 @@ pub fn open_session(mem: &mut [u64], file: &[u8], parts: u16, tempo: u64, grace:
         return Opening::Refused(Refusal::MemoryShort);
     }
     let v = score::check_file(file);
-    if let Verdict::Refused(x) = v {
+    if let Err(x) = v {
         return Opening::Refused(Refusal::File(x));
     }
     if tempo < 1 {

@@ -9,11 +9,10 @@ use lib.Dec.{leb, eqb}
 use lib.ListN.{length}
 use borrow.Author.Tests.{le-leb, ne_eqb}
 use borrow.Author.Rules.{rules}
+use Rattle.std.specs.Prelude.{Result, Ok, Err}
 use Rattle.base.specs.Tests.{between, pick}
 use Rattle.base.specs.Checks.{Check, fine, refused, need, first_fault, renamed}
 use Rattle.ascii.specs.Laying.{Laid}
-use Rattle.contents.specs.declared.Verdict.{Verdict}
-use Rattle.contents.specs.declared.Verdict.TheVariants.{Fine, Refused as Faulty}
 use Rattle.contents.specs.declared.Fault.{Fault}
 use Rattle.contents.specs.declared.Fault.TheVariants.{FileShort, BadCount, BadOffset, BadLength, BadEvent, BadItem, BadMessage, TextLeft, NoMessage}
 use Rattle.contents.specs.Replies.{rule_row, fault_row, verdict_of}
@@ -92,16 +91,16 @@ pub ruleset openings = (opening-accepted, opening-carries, rules)
 
 -- ---- why an opening was refused
 
-module _ (f : List ℕ) (nineteen : Bool) (v : Verdict) (told : v ≡ verdict_of (checked f)) where
-  pub why-file : (x : Fault) → v ≡ Faulty x → File x ≡ why_refused f nineteen
+module _ (f : List ℕ) (nineteen : Bool) (v : Result (Unit {0}) Fault) (told : v ≡ verdict_of (checked f)) where
+  pub why-file : (x : Fault) → v ≡ Err x → File x ≡ why_refused f nineteen
   unfolding why_refused
   why-file x e = rw (verdict-refused (checked f) v x told e, why_refused)
 
-  pub why-grace : v ≡ Fine → nineteen ≡ true → BadGrace ≡ why_refused f nineteen
+  pub why-grace : v ≡ Ok tt → nineteen ≡ true → BadGrace ≡ why_refused f nineteen
   unfolding why_refused pick
   why-grace e n = rw (verdict-fine (checked f) v told e, why_refused, n)
 
-  pub why-tempo : v ≡ Fine → nineteen ≡ false → BadTempo ≡ why_refused f nineteen
+  pub why-tempo : v ≡ Ok tt → nineteen ≡ false → BadTempo ≡ why_refused f nineteen
   unfolding why_refused pick
   why-tempo e n = rw (verdict-fine (checked f) v told e, why_refused, n)
 

@@ -9,7 +9,6 @@ ghost use Rattle.playing.specs.Refused.{why_refused};
 ghost use Rattle.playing.specs.Inner.{Carries};
 
 use crate::Line;
-use contents::Verdict;
 use session::Refusal;
 
 // An opening's reply, and whether it was granted.
@@ -42,8 +41,8 @@ pub fn why_refused(file: &[u8], nineteen: bool) -> Refusal
     ensures { result ≡ why_refused file.now nineteen }
 {
     match score::check_file(file) {
-        Verdict::Refused(x) => Refusal::File(x),
-        Verdict::Fine => {
+        Err(x) => Refusal::File(x),
+        Ok(()) => {
             if nineteen {
                 return Refusal::BadGrace;
             }

@@ -16,8 +16,6 @@ use Rattle.tokens.specs.declared.Place.{Place}
 use Rattle.tokens.specs.Places.{place_behind}
 use Rattle.contents.specs.declared.Counts.{Counts}
 use Rattle.contents.specs.declared.Fault.{Fault}
-use Rattle.contents.specs.declared.Verdict.{Verdict}
-use Rattle.contents.specs.declared.Verdict.TheVariants.{Fine, Refused}
 use Rattle.contents.specs.Limits.{longest_score}
 use Rattle.contents.specs.Contents.{counts_right}
 use Rattle.contents.specs.Inner.{Counted}
@@ -63,14 +61,14 @@ pub ruleset writes = (page-begun, write-asked, written-file, rules)
 
 -- ---- the file's answer
 
-module _ (f m m' : List ℕ) (v : Verdict) (a : Settled f m m' v) where
-  pub settle-refused : (x : Fault) → v ≡ Refused x → Settles f m m' (Err (BadFile x))
+module _ (f m m' : List ℕ) (v : Result (Unit {0}) Fault) (a : Settled f m m' v) where
+  pub settle-refused : (x : Fault) → v ≡ Err x → Settles f m m' (Err (BadFile x))
   unfolding judged room_left settled
   settle-refused x p =
       let z = verdict-refused (checked f) v x a.verdict p in
       record { answer = rw z; left = rw z at a.left }
 
-  pub settle-made : v ≡ Fine → Settles f m m' (Ok (length f))
+  pub settle-made : v ≡ Ok tt → Settles f m m' (Ok (length f))
   unfolding judged room_left settled
   settle-made p =
       let z = verdict-fine (checked f) v a.verdict p in
@@ -82,7 +80,7 @@ module _ (t : List ℕ) (c : Counts) (m : List ℕ) (asked : Sayable t c m) wher
   says-counts : counts_right (counts_in (piece_of (script Start t))) ≡ counts_right c
   says-counts = rw asked.counts
 
-  pub count-refused : (v : Verdict) (x : Fault) → v ≡ verdict_of (counts_right c) → v ≡ Refused x → Answers t m m (Err (BadFile x))
+  pub count-refused : (v : Result (Unit {0}) Fault) (x : Fault) → v ≡ verdict_of (counts_right c) → v ≡ Err x → Answers t m m (Err (BadFile x))
   unfolding answered piece_right first_fault judged room_left
   count-refused v x e p =
       let z : counts_right (counts_in (piece_of (script Start t))) ≡ refused x = says-counts ∙ verdict-refused (counts_right c) v x e p in

@@ -14,7 +14,7 @@ ghost use Rattle.reader.specs.Filled.{Writable, Settles, Sayable, Answers};
 use crate::listing::fill_list;
 use crate::paging::fill_page;
 use contents::limits::LONGEST_SCORE;
-use contents::{Counts, Verdict, check_counts};
+use contents::{Counts, check_counts};
 use filing::{join, settle_file};
 use text::TextError;
 use tokens::place_behind;
@@ -49,8 +49,8 @@ fn settle(file: &[u8], room: &mut [u8]) -> Result<usize, TextError>
 {
     let settled = settle_file(file, room);
     match settled {
-        Verdict::Fine => Ok(file.len()),
-        Verdict::Refused(fault) => Err(TextError::BadFile { fault }),
+        Ok(()) => Ok(file.len()),
+        Err(fault) => Err(TextError::BadFile { fault }),
     }
 }
 
@@ -70,11 +70,11 @@ pub fn judge(text: &[u8], c: Counts, room: &mut [u8]) -> Result<usize, TextError
 {
     let counted = check_counts(c);
     match counted {
-        Verdict::Fine => {
+        Ok(()) => {
             let mut file = [0; LONGEST_SCORE];
             make(text, c, &mut file, room)
         }
-        Verdict::Refused(fault) => Err(TextError::BadFile { fault }),
+        Err(fault) => Err(TextError::BadFile { fault }),
     }
 }
 

@@ -6,10 +6,10 @@ use Prim.Native.Nat.{ℕ, ◌≤◌, ◌<◌}
 use native.Mathlib.Omega.{arith}
 use lib.ListN.{length}
 use borrow.Author.Tests.{leb-true}
+use Rattle.std.specs.Prelude.{Result, Ok}
 use Rattle.base.specs.Checks.{fine}
 use Rattle.base.proofs.CheckLaws.{first_head, first_rest, first_holds}
-use Rattle.contents.specs.declared.Verdict.{Verdict}
-use Rattle.contents.specs.declared.Verdict.TheVariants.{Fine}
+use Rattle.contents.specs.declared.Fault.{Fault}
 use Rattle.contents.specs.Limits.{contents_size}
 use Rattle.contents.specs.Replies.{verdict_of}
 use Rattle.contents.specs.Contents.{counts_of, offsets_of, counts_right, offsets_right, events_at, messages_at}
@@ -24,7 +24,7 @@ use Rattle.contents.proofs.ContentsLaws.{counts-held, offsets-held}
 use Rattle.items.proofs.Walked.{Walked, table-walked}
 
 -- what a caller of the check knows
-pub accepted-told : (f : List ℕ) (v : Verdict) → v ≡ verdict_of (checked f) → v ≡ Fine → Accepted f
+pub accepted-told : (f : List ℕ) (v : Result (Unit {0}) Fault) → v ≡ verdict_of (checked f) → v ≡ Ok tt → Accepted f
 accepted-told f v e p = record { fine = verdict-fine (checked f) v e p }
 
 module _ (f : List ℕ) (accepted : Accepted f) where

@@ -5,6 +5,7 @@ use mathlib.Core.Bool.{Bool, true, false}
 use mathlib.Core.List.{List, [], ◌∷◌}
 use Prim.Native.Nat.{ℕ, zero, suc, ◌+◌, ◌*◌}
 use lib.ListN.{length, take, drop}
+use Rattle.std.specs.Prelude.{Result, Ok, Err}
 use Rattle.page.specs.declared.Item.{Item}
 use Rattle.base.specs.Checks.{Check, fine, refused, need, first_fault}
 use Rattle.contents.specs.declared.Fault.{Fault}
@@ -16,8 +17,6 @@ use Rattle.contents.specs.Limits.{event_size, item_size, message_size}
 use Rattle.contents.specs.Bytes.{u16_at}
 use Rattle.contents.specs.Contents.{counts_right, events_at, items_at, messages_at}
 use Rattle.contents.specs.Replies.{rule_row, fault_row}
-use Rattle.items.specs.declared.walk.Walk.{Walk}
-use Rattle.items.specs.declared.walk.Walk.TheVariants.{Actions, Stop}
 use Rattle.items.specs.declared.Setting.{Setting}
 use Rattle.items.specs.Items.{kind_right, synchrony_right, error_right, part_right, delay_right, event_right, nesting_right, number_right, actions_right, item_right, within_of, own_of, next, inside, onward, broken_at, on_from, walk_of, walked, outset, walk_fault, items_right}
 use Rattle.messages.specs.Messages.{messages_right}
@@ -110,12 +109,12 @@ module _ (P : ℕ → Type 0) where
     breaks-drop (suc n) none-breaks = none-breaks
     breaks-drop (suc n) (one-breaks p b) = breaks-drop n b
 
-  walk-onward : (w : Walk) (more : ℕ → Walk) → Finds (Told P) (walk_fault w) → ((n : ℕ) → Finds (Told P) (walk_fault (more n))) → Finds (Told P) (walk_fault (onward w more))
+  walk-onward : (w : Result ℕ Fault) (more : ℕ → Result ℕ Fault) → Finds (Told P) (walk_fault w) → ((n : ℕ) → Finds (Told P) (walk_fault (more n))) → Finds (Told P) (walk_fault (onward w more))
   unfolding onward
-  walk-onward (Actions n) more h k = k n
-  walk-onward (Stop x) more h k = h
+  walk-onward (Ok n) more h k = k n
+  walk-onward (Err x) more h k = h
 
-  walk-on : (v : Check ItemRule) (at : ℕ) (w : Walk) → Finds (ToldRule P) v → Finds (Told P) (walk_fault w) → Finds (Told P) (walk_fault (on_from v at w))
+  walk-on : (v : Check ItemRule) (at : ℕ) (w : Result ℕ Fault) → Finds (ToldRule P) v → Finds (Told P) (walk_fault w) → Finds (Told P) (walk_fault (on_from v at w))
   unfolding on_from walk_fault fault_row
   walk-on fine at w no_fault h = h
   walk-on (refused r) at w (some_fault p) h = some_fault {x = broken_at at r} p

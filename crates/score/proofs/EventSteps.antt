@@ -4,11 +4,11 @@ use mathlib.Core.Path.{◌≡◌, sym, ◌∙◌}
 use mathlib.Core.List.{List, [], ◌∷◌}
 use Prim.Native.Nat.{ℕ, ◌+◌, ◌-◌, ◌<◌, ◌≤◌}
 use borrow.Author.Rules.{rules}
+use Rattle.std.specs.Prelude.{Ok, Err}
 use Rattle.base.specs.Tests.{between}
 use Rattle.base.specs.Checks.{Check, need, first_fault}
 use Rattle.base.proofs.TestLaws.{between_in, between-under, between-over}
 use Rattle.contents.specs.declared.Fault.{Fault}
-use Rattle.contents.specs.declared.Verdict.TheVariants.{Fine, Refused}
 use Rattle.contents.specs.declared.Fault.TheVariants.{BadEvent}
 use Rattle.contents.specs.Limits.{event_size, longest}
 use Rattle.contents.specs.Bytes.{u32_at}
@@ -22,7 +22,7 @@ abbrev found : List ℕ → ℕ → ℕ → Check Fault
 found f at count = events_right at (durations_at f at count)
 
 module _ (f : List ℕ) (at count : ℕ) (W : Check Fault) where
-  pub events-none : count ≤ 0 → found f at count ≡ W → Fine ≡ verdict_of W
+  pub events-none : count ≤ 0 → found f at count ≡ W → Ok tt ≡ verdict_of W
   unfolding events_right verdict_of
   events-none p q = rw (← q, durations-none f at count p)
 
@@ -31,10 +31,10 @@ module _ (f : List ℕ) (at count : ℕ) (W : Check Fault) where
   more p = rw (durations-more f at count p)
 
   module _ (d : ℕ) (some : 0 < count) (e : d ≡ u32_at f at) where
-    pub events-under : d < 1 → found f at count ≡ W → Refused (BadEvent at) ≡ verdict_of W
+    pub events-under : d < 1 → found f at count ≡ W → Err (BadEvent at) ≡ verdict_of W
     events-under p q = rw (← q, more some) (verdict-stop _ _ _ (rw (← e) (between-under 1 longest d p)))
 
-    pub events-over : longest < d → found f at count ≡ W → Refused (BadEvent at) ≡ verdict_of W
+    pub events-over : longest < d → found f at count ≡ W → Err (BadEvent at) ≡ verdict_of W
     events-over p q = rw (← q, more some) (verdict-stop _ _ _ (rw (← e) (between-over 1 longest d p)))
 
     pub events-step : 1 ≤ d → d ≤ longest → found f at count ≡ W → found f (at + event_size) (count - 1) ≡ W

@@ -7,6 +7,7 @@ use Prim.Native.Nat.{ℕ, zero, suc, ◌+◌, ◌*◌, ◌<◌, ◌≤◌}
 use native.Mathlib.Omega.{arith}
 use lib.ListN.{length, get_or, take, drop, length-take, length-drop}
 use lib.Seq.{get_or-take, get_or-drop, length-take-le}
+use Rattle.std.specs.Prelude.{Result, Ok, Err}
 use Rattle.page.specs.declared.Item.{Item}
 use Rattle.base.specs.Tests.{between}
 use Rattle.base.specs.Checks.{Check, fine, refused, need, first_fault}
@@ -17,8 +18,6 @@ use Rattle.contents.specs.declared.Counts.{Counts}
 use Rattle.contents.specs.Limits.{event_size, item_size, message_size, longest}
 use Rattle.contents.specs.Bytes.{u16_at}
 use Rattle.contents.specs.Contents.{items_at}
-use Rattle.items.specs.declared.walk.Walk.{Walk}
-use Rattle.items.specs.declared.walk.Walk.TheVariants.{Actions, Stop}
 use Rattle.items.specs.declared.Setting.{Setting}
 use Rattle.items.specs.Items.{item_right, within_of, own_of, next, inside, onward, broken_at, on_from, walk_of, walked, outset, walk_fault, items_right}
 use Rattle.items.specs.Ranged.{blank}
@@ -95,7 +94,7 @@ pub data Standing (c : Counts) : (is : List Item) (h : Setting) (n p : ℕ) (h' 
   within : {i : Item} {is : List Item} {h h' : Setting} {n p left n' : ℕ} → item_right i c h (length is) n ≡ fine
       → Standing c (take (within_of i) is) (inside i h) (n + own_of i) p h' left n' → Standing c (i ∷ is) h n (suc p) h' left n'
   after : {i : Item} {is : List Item} {h h' : Setting} {n p left n' : ℕ} → item_right i c h (length is) n ≡ fine
-      → (b at m : ℕ) → length (take (within_of i) is) ≤ b → walk_of b c at (take (within_of i) is) (inside i h) (n + own_of i) ≡ Actions m
+      → (b at m : ℕ) → length (take (within_of i) is) ≤ b → walk_of b c at (take (within_of i) is) (inside i h) (n + own_of i) ≡ Ok m
       → Standing c (drop (within_of i) is) (next i h) m p h' left n' → Standing c (i ∷ is) h n (suc (within_of i + p)) h' left n'
 
 -- The item at this page place is wrong where it stands: this is the first rule that it breaks, and the place is its field's.
@@ -115,7 +114,7 @@ same-field : (x : Fault) (r : ItemRule) (a b : ℕ) → x ≡ broken_at a r → 
 same-field x r a b e s = e ∙ ap (λ (k : ℕ). broken_at k r) s
 
 module _ (c : Counts) (at : ℕ) (i : Item) (is : List Item) (h : Setting) (n : ℕ) (x : Fault) where
-  item-here : (r : ItemRule) → item_right i c h (length is) n ≡ refused r → Stop (broken_at at r) ≡ Stop x → ItemFault c at (i ∷ is) h n x
+  item-here : (r : ItemRule) → item_right i c h (length is) n ≡ refused r → ◌≡◌ {A = Result ℕ Fault} (Err (broken_at at r)) (Err x) → ItemFault c at (i ∷ is) h n x
   item-here r wrong e =
       let q : x ≡ broken_at at r = cc in
       let s : at ≡ at + item_size * 0 = omega arith in
@@ -138,7 +137,7 @@ module _ (c : Counts) (at : ℕ) (i : Item) (is : List Item) (h : Setting) (n : 
           wrong = rw (← get_or-take (within_of i) is f.p blank b) f.wrong;
         }
 
-    item-after : (b at' m : ℕ) → length (take (within_of i) is) ≤ b → walk_of b c at' (take (within_of i) is) (inside i h) (n + own_of i) ≡ Actions m
+    item-after : (b at' m : ℕ) → length (take (within_of i) is) ≤ b → walk_of b c at' (take (within_of i) is) (inside i h) (n + own_of i) ≡ Ok m
         → ItemFault c (at + item_size + item_size * within_of i) (drop (within_of i) is) (next i h) m x → ItemFault c at (i ∷ is) h n x
     item-after b at' m k w f =
         let s : at + item_size + item_size * within_of i + item_size * f.p ≡ at + item_size * suc (within_of i + f.p) = omega arith in
@@ -155,14 +154,14 @@ module _ (c : Counts) (at : ℕ) (i : Item) (is : List Item) (h : Setting) (n : 
         }
 
 -- a walk in two parts that stops does so in the first, or in the second from where the first ended
-onward-stopped : (w : Walk) (on : ℕ → Walk) (x : Fault) (P : Type 0) → onward w on ≡ Stop x → (w ≡ Stop x → P) → ((m : ℕ) → w ≡ Actions m → on m ≡ Stop x → P) → P
+onward-stopped : (w : Result ℕ Fault) (on : ℕ → Result ℕ Fault) (x : Fault) (P : Type 0) → onward w on ≡ Err x → (w ≡ Err x → P) → ((m : ℕ) → w ≡ Ok m → on m ≡ Err x → P) → P
 unfolding onward
-onward-stopped (Actions m) on x P e first second = second m refl e
-onward-stopped (Stop y) on x P e first second = first e
+onward-stopped (Ok m) on x P e first second = second m refl e
+onward-stopped (Err y) on x P e first second = first e
 
 -- one item of the walk, with what holds of those within it and after it
 module _ (b : ℕ) (c : Counts) (at : ℕ) (i : Item) (is : List Item) (x : Fault) (fits : length is ≤ b)
-    (found : (at' : ℕ) (is' : List Item) (h : Setting) (n : ℕ) → length is' ≤ b → walk_of b c at' is' h n ≡ Stop x → ItemFault c at' is' h n x) where
+    (found : (at' : ℕ) (is' : List Item) (h : Setting) (n : ℕ) → length is' ≤ b → walk_of b c at' is' h n ≡ Err x → ItemFault c at' is' h n x) where
   taken-fits : (k : ℕ) → length (take k is) ≤ b
   taken-fits k = omega (arith, length-take k is)
 
@@ -173,7 +172,7 @@ module _ (b : ℕ) (c : Counts) (at : ℕ) (i : Item) (is : List Item) (x : Faul
       → on_from v at
       (onward (walk_of b c (at + item_size) (take (within_of i) is) (inside i h) (n + own_of i))
       (λ m. walk_of b c (at + item_size + item_size * within_of i) (drop (within_of i) is) (next i h) m))
-      ≡ Stop x
+      ≡ Err x
       → ItemFault c at (i ∷ is) h n x
   unfolding on_from
   item-step h n (refused r) wrong q = item-here c at i is h n x r wrong q
@@ -182,17 +181,17 @@ module _ (b : ℕ) (c : Counts) (at : ℕ) (i : Item) (is : List Item) (x : Faul
       (λ s. item-within c at i is h n x right (within-left (right-item i c h (length is) n right)) (found _ _ _ _ (taken-fits (within_of i)) s))
       (λ m w s. item-after c at i is h n x right b _ m (taken-fits (within_of i)) w (found _ _ _ _ (dropped-fits (within_of i)) s))
 
-walk-fault : (b : ℕ) (c : Counts) (at : ℕ) (is : List Item) (h : Setting) (n : ℕ) (x : Fault) → length is ≤ b → walk_of b c at is h n ≡ Stop x → ItemFault c at is h n x
+walk-fault : (b : ℕ) (c : Counts) (at : ℕ) (is : List Item) (h : Setting) (n : ℕ) (x : Fault) → length is ≤ b → walk_of b c at is h n ≡ Err x → ItemFault c at is h n x
 unfolding walk_of
 walk-fault zero c at is h n x l e = let z : ◌≡◌ {A = ℕ} 0 1 = cc in absurd (omega arith)
 walk-fault (suc b) c at [] h n x l e = let z : ◌≡◌ {A = ℕ} 0 1 = cc in absurd (omega arith)
 walk-fault (suc b) c at (i ∷ is) h n x l e =
     item-step b c at i is x (omega arith) (λ at' is' h' n' k q. walk-fault b c at' is' h' n' x k q) h n (item_right i c h (length is) n) refl e
 
-walk-stopped : (w : Walk) (x : Fault) → walk_fault w ≡ refused x → w ≡ Stop x
+walk-stopped : (w : Result ℕ Fault) (x : Fault) → walk_fault w ≡ refused x → w ≡ Err x
 unfolding walk_fault
-walk-stopped (Actions n) x e = let z : ◌≡◌ {A = ℕ} 0 1 = cc in absurd (omega arith)
-walk-stopped (Stop y) x e = cc
+walk-stopped (Ok n) x e = let z : ◌≡◌ {A = ℕ} 0 1 = cc in absurd (omega arith)
+walk-stopped (Err y) x e = cc
 
 pub item-fault : (c : Counts) (is : List Item) (x : Fault) → items_right c is ≡ refused x → ItemFault c (items_at c) is outset 0 x
 unfolding items_right walked

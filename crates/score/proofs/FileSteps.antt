@@ -6,9 +6,9 @@ use Prim.Native.Nat.{ℕ, ◌<◌, ◌≤◌}
 use lib.ListN.{length}
 use borrow.Author.Tests.{le-leb, lt-leb}
 use borrow.Author.Rules.{rules}
+use Rattle.std.specs.Prelude.{Result, Err}
 use Rattle.base.specs.Checks.{first_fault}
-use Rattle.contents.specs.declared.Verdict.{Verdict}
-use Rattle.contents.specs.declared.Verdict.TheVariants.{Refused}
+use Rattle.contents.specs.declared.Fault.{Fault}
 use Rattle.contents.specs.declared.Fault.TheVariants.{FileShort}
 use Rattle.contents.specs.declared.Counts.{Counts}
 use Rattle.contents.specs.Limits.{contents_size}
@@ -24,7 +24,7 @@ use Rattle.contents.proofs.ContentsLaws.{counts-told, sized-told}
 
 -- ---- the bodies, read with the counts that the contents give
 
-pub bodies-told : (f : List ℕ) (c : Counts) (r : Verdict) → c ≡ counts_of f
+pub bodies-told : (f : List ℕ) (c : Counts) (r : Result (Unit {0}) Fault) → c ≡ counts_of f
     → r
     ≡ verdict_of (
     first_fault (
@@ -42,11 +42,11 @@ pub ruleset bodies = (bodies-told, told-fine, told-fault, told-last)
 
 -- ---- the whole file
 
-pub file_short : (f : List ℕ) → length f < contents_size → Refused FileShort ≡ verdict_of (checked f)
+pub file_short : (f : List ℕ) → length f < contents_size → Err FileShort ≡ verdict_of (checked f)
 unfolding checked
 file_short f p = verdict-stop _ FileShort _ (lt-leb contents_size (length f) p)
 
-pub file-opened : (f : List ℕ) (c : Counts) (r : Verdict) → contents_size ≤ length f → c ≡ counts_of f
+pub file-opened : (f : List ℕ) (c : Counts) (r : Result (Unit {0}) Fault) → contents_size ≤ length f → c ≡ counts_of f
     → r ≡ verdict_of (first_fault (counts_right c ∷ offsets_right (offsets_of f) c (length f) ∷ bodies_right f c ∷ []))
     → r ≡ verdict_of (checked f)
 unfolding checked

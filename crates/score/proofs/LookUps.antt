@@ -9,11 +9,10 @@ use borrow.Author.Tests.{le-ltb, lt-ltb, ltb-true}
 use borrow.Author.Rules.{rules}
 use borrow.Rule.Slice.PartAt.{sl_partˢ}
 use denote.Ref.{Bor}
+use Rattle.std.specs.Prelude.{true, false, Result, Ok, Err, is_err}
 use Rattle.base.specs.Checks.{Check, fine, refused, need, first_fault}
 use Rattle.base.proofs.TestLaws.{between-low, between-high}
 use Rattle.base.proofs.CheckLaws.{first_head, first_rest, first_holds}
-use Rattle.contents.specs.declared.Verdict.{Verdict}
-use Rattle.contents.specs.declared.Verdict.TheVariants.{Fine, Refused}
 use Rattle.contents.specs.declared.Fault.{Fault}
 use Rattle.contents.specs.declared.Fault.TheVariants.{NoMessage}
 use Rattle.contents.specs.declared.Counts.{Counts}
@@ -115,21 +114,21 @@ module _ (whole handed : Bor (List ℕ)) (n : ℕ) (p : Part whole handed (label
 
 -- ---- the reply, in the code's terms
 
-pub check-long : (f : List ℕ) (v : Verdict) → v ≡ verdict_of (checked f) → v ≡ Fine → contents_size ≤ length f
+pub check-long : (f : List ℕ) (v : Result (Unit {0}) Fault) → v ≡ verdict_of (checked f) → v ≡ Ok tt → contents_size ≤ length f
 check-long f v e p = file-long f (accepted-told f v e p)
 
-module _ (f : List ℕ) (c : Counts) (n : ℕ) (v : Verdict) (e : c ≡ counts_of f) (p : v ≡ verdict_of (checked f)) (q : v ≡ Fine) where
-  pub reply-none : c.messages ≤ n → Refused NoMessage ≡ verdict_of (label_reply f n)
+module _ (f : List ℕ) (c : Counts) (n : ℕ) (v : Result (Unit {0}) Fault) (e : c ≡ counts_of f) (p : v ≡ verdict_of (checked f)) (q : v ≡ Ok tt) where
+  pub reply-none : c.messages ≤ n → Err NoMessage ≡ verdict_of (label_reply f n)
   unfolding label_reply
   reply-none l = told-fine v (checked f) _ p _ q (verdict-stop _ NoMessage _ (le-ltb n (counts_of f).messages (rw e at l)))
 
-  pub reply-fine : n < c.messages → Fine ≡ verdict_of (label_reply f n)
+  pub reply-fine : n < c.messages → Ok tt ≡ verdict_of (label_reply f n)
   unfolding label_reply
-  reply-fine l = told-fine v (checked f) _ p _ q (verdict-pass _ NoMessage Fine _ (lt-ltb n (counts_of f).messages (rw e at l)) verdict-end)
+  reply-fine l = told-fine v (checked f) _ p _ q (verdict-pass _ NoMessage (Ok tt) _ (lt-ltb n (counts_of f).messages (rw e at l)) verdict-end)
 
-pub reply-fault : (f : List ℕ) (n : ℕ) (x : Fault) (v : Verdict) → v ≡ verdict_of (checked f) → v ≡ Refused x → v ≡ verdict_of (label_reply f n)
+pub reply-fault : (f : List ℕ) (n : ℕ) (x : Fault) (v r : Result (Unit {0}) Fault) → v ≡ verdict_of (checked f) → v ≡ Err x → r ≡ Err x → r ≡ verdict_of (label_reply f n)
 unfolding label_reply
-reply-fault f n x v p q = told-fault v (checked f) _ p x q
+reply-fault f n x v r p q e = told-fault v (checked f) _ p r x q e
 
 pub ruleset replies = (check-long, reply-none, reply-fine, reply-fault, rules)
 
@@ -157,9 +156,14 @@ module _ (f : List ℕ) (c : Counts) (n : ℕ) (a : Accepted f) (s : c ≡ count
   unfolding label_span granted label_reply first_fault need
   accepted-none l = rw (a.fine, le-ltb n (counts_of f).messages (rw s at l))
 
-pub span-refused : (f : List ℕ) (n : ℕ) (x : Fault) (v : Verdict) → v ≡ verdict_of (checked f) → v ≡ Refused x → nowhere ≡ label_span f n
+pub span-refused : (f : List ℕ) (n : ℕ) (v : Result (Unit {0}) Fault) → v ≡ verdict_of (checked f) → is_err v ≡ true → nowhere ≡ label_span f n
 unfolding label_span granted label_reply first_fault
-span-refused f n x v p q = rw (verdict-refused (checked f) v x p q)
+span-refused f n (Ok u) p q = absurd cc
+span-refused f n (Err x) p q = rw (verdict-refused (checked f) (Err x) x p refl)
+
+pub span-checked : (f : List ℕ) (v : Result (Unit {0}) Fault) → v ≡ verdict_of (checked f) → is_err v ≡ false → Accepted f
+span-checked f (Ok u) p q = accepted-told f (Ok u) p refl
+span-checked f (Err x) p q = absurd cc
 
 module _ (f : List ℕ) (c : Counts) (n at text start size : ℕ) (g : Granted f c n) (ea : at ≡ messages_at c) (et : text ≡ text_at c)
     (p : start ≡ u16_at f (at + message_size * n)) (q : size ≡ u16_at f (at + message_size * n + 2)) where
@@ -181,4 +185,4 @@ part_of whole s t e =
     let z : s.start + s.size - s.start ≡ s.size = omega arith in
     rw (← e) (record { place = refl; bytes = rw z })
 
-pub ruleset spans = (file-long, accepted-told, accepted-granted, accepted-none, span-refused, span-granted, span_fits, part_of, rules)
+pub ruleset spans = (file-long, span-checked, accepted-granted, accepted-none, span-refused, span-granted, span_fits, part_of, rules)

@@ -7,6 +7,7 @@ use Prim.Native.Nat.{ℕ, zero, suc, ◌+◌, ◌*◌}
 use native.Mathlib.Omega.{arith}
 use lib.Dec.{leb, ltb, eqb}
 use lib.ListN.{length, take, drop}
+use Rattle.std.specs.Prelude.{Result, Ok, Err}
 use Rattle.page.specs.declared.Item.{Item}
 use Rattle.base.specs.Tests.{pick, every}
 use Rattle.base.specs.Checks.{Check, fine, refused, need, first_fault, is_fine, renamed}
@@ -20,8 +21,6 @@ use Rattle.contents.specs.Limits.{item_size}
 use Rattle.contents.specs.Contents.{counts_of, items_at}
 use Rattle.contents.specs.Replies.{fault_row, reply_of, verdict_of}
 use Rattle.contents.proofs.RuleRows.{rule-numbered, field-within}
-use Rattle.items.specs.declared.walk.Walk.{Walk}
-use Rattle.items.specs.declared.walk.Walk.TheVariants.{Actions, Stop}
 use Rattle.items.specs.declared.Setting.{Setting}
 use Rattle.items.specs.Items.{is_action, synchrony_right, error_right, item_right, within_of, own_of, next, inside, onward, broken_at, on_from, walk_of, walked, outset, walk_fault, items_right}
 use Rattle.score.specs.Piece.{decode}
@@ -52,16 +51,16 @@ right-when-before i c h left n =
 
 -- ---- the walk goes the same way
 
-data Alike : WalkBefore → Walk → Type 0 where
-  both_count : {n : ℕ} → Alike (counted n) (Actions n)
-  both_stop : {r : ItemRule} {at : ℕ} → Alike (wrong_at at) (Stop (broken_at at r))
+data Alike : WalkBefore → Result ℕ Fault → Type 0 where
+  both_count : {n : ℕ} → Alike (counted n) (Ok n)
+  both_stop : {r : ItemRule} {at : ℕ} → Alike (wrong_at at) (Err (broken_at at r))
 
-alike-onward : {v : WalkBefore} {w : Walk} (more : ℕ → WalkBefore) (on : ℕ → Walk) → Alike v w → ((m : ℕ) → Alike (more m) (on m)) → Alike (onward_before v more) (onward w on)
+alike-onward : {v : WalkBefore} {w : Result ℕ Fault} (more : ℕ → WalkBefore) (on : ℕ → Result ℕ Fault) → Alike v w → ((m : ℕ) → Alike (more m) (on m)) → Alike (onward_before v more) (onward w on)
 unfolding onward_before onward
 alike-onward more on (both_count {n}) h = h n
 alike-onward more on both_stop h = both_stop
 
-alike_from : (b : Bool) (v : Check ItemRule) (at : ℕ) (u : WalkBefore) (w : Walk) → is_fine v ≡ b → Alike u w → Alike (pick b u (wrong_at at)) (on_from v at w)
+alike_from : (b : Bool) (v : Check ItemRule) (at : ℕ) (u : WalkBefore) (w : Result ℕ Fault) → is_fine v ≡ b → Alike u w → Alike (pick b u (wrong_at at)) (on_from v at w)
 unfolding is_fine pick on_from
 alike_from true fine at u w e h = h
 alike_from false fine at u w e h = let z : ◌≡◌ {A = ℕ} 0 1 = cc in absurd (omega arith)
@@ -119,7 +118,7 @@ same (refused x) = kept (no-7 x)
 
 -- ---- the file
 
-alike-split : {v : WalkBefore} {w : Walk} → Alike v w → Split fault_row (told7 v) (walk_fault w)
+alike-split : {v : WalkBefore} {w : Result ℕ Fault} → Alike v w → Split fault_row (told7 v) (walk_fault w)
 unfolding told7 walk_fault fault_row
 alike-split both_count = accepted
 alike-split (both_stop {r} {at}) = let n = rule-numbered r in let p = field-within r in split {x = broken_at at r} {b = at} n.0 n.1 (omega arith) (omega arith)

@@ -5,21 +5,15 @@ ghost use Rattle.contents.specs.Inner.{RightContents};
 ghost use Rattle.score.specs.File.{bodies_right};
 
 use crate::events::check_events;
-use contents::{Counts, Verdict};
+use contents::{Counts, Fault};
 use items::check_items;
 use messages::check_messages;
 
-pub fn check_bodies(file: &[u8], c: Counts) -> Verdict
+pub fn check_bodies(file: &[u8], c: Counts) -> Result<(), Fault>
     requires { RightContents file.now c }
     ensures { result ≡ verdict_of (bodies_right file.now c) }
 {
-    let timed = check_events(file, c);
-    let Verdict::Fine = timed else {
-        return timed;
-    };
-    let walked = check_items(file, c);
-    let Verdict::Fine = walked else {
-        return walked;
-    };
+    check_events(file, c)?;
+    check_items(file, c)?;
     check_messages(file, c)
 }

@@ -7,9 +7,9 @@ ghost use Rattle.score.specs.Events.{durations_at, events_right};
 
 use contents::bytes::read32;
 use contents::limits::{CONTENTS_SIZE, EVENT_SIZE, LONGEST};
-use contents::{Counts, Fault, Verdict};
+use contents::{Counts, Fault};
 
-pub fn check_events(file: &[u8], c: Counts) -> Verdict
+pub fn check_events(file: &[u8], c: Counts) -> Result<(), Fault>
     requires { Sized c (length file.now) }
     ensures { result ≡ verdict_of (events_right events_at (durations_at file.now events_at c.events)) }
 {
@@ -18,13 +18,13 @@ pub fn check_events(file: &[u8], c: Counts) -> Verdict
     while 0 < left {
         let d = read32(file, i);
         if d < 1 {
-            return Verdict::Refused(Fault::BadEvent(i));
+            return Err(Fault::BadEvent(i));
         }
         if LONGEST < d {
-            return Verdict::Refused(Fault::BadEvent(i));
+            return Err(Fault::BadEvent(i));
         }
         i += EVENT_SIZE;
         left -= 1;
     }
-    Verdict::Fine
+    Ok(())
 }

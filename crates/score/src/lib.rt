@@ -12,7 +12,7 @@ ghost use Rattle.score.specs.Readers.{EventIn, ItemIn, EventRead, ItemRead};
 use bodies::check_bodies;
 use contents::bytes::read32;
 use contents::limits::{CONTENTS_SIZE, EVENT_SIZE, ITEM_SIZE};
-use contents::{Fault, Verdict, check_counts, check_layout, items_at, read_counts};
+use contents::{Fault, check_counts, check_layout, items_at, read_counts};
 use items::item_at;
 use look_up::{accepted_span, label_span};
 use page::Item;
@@ -23,37 +23,28 @@ mod events;
 mod look_up;
 
 // The first fault of a file.
-pub fn check_file(file: &[u8]) -> Verdict
+pub fn check_file(file: &[u8]) -> Result<(), Fault>
     ensures { result ≡ verdict_of (checked file.now) }
 {
     if file.len() < CONTENTS_SIZE {
-        return Verdict::Refused(Fault::FileShort);
+        return Err(Fault::FileShort);
     }
     let c = read_counts(file);
-    let counted = check_counts(c);
-    let Verdict::Fine = counted else {
-        return counted;
-    };
-    let placed = check_layout(file, c);
-    let Verdict::Fine = placed else {
-        return placed;
-    };
+    check_counts(c)?;
+    check_layout(file, c)?;
     check_bodies(file, c)
 }
 
 // The text look-up's reply. The number is taken whole, however large.
-pub fn label_reply(file: &[u8], n: u64) -> Verdict
+pub fn label_reply(file: &[u8], n: u64) -> Result<(), Fault>
     ensures { result ≡ verdict_of (label_reply file.now n) }
 {
-    let v = check_file(file);
-    let Verdict::Fine = v else {
-        return v;
-    };
+    check_file(file)?;
     let c = read_counts(file);
     if c.messages as u64 <= n {
-        return Verdict::Refused(Fault::NoMessage);
+        return Err(Fault::NoMessage);
     }
-    Verdict::Fine
+    Ok(())
 }
 
 // The text look-up's part: the label's own bytes in the caller's file, never a copy.

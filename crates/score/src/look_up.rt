@@ -7,7 +7,7 @@ ghost use Rattle.score.specs.Inner.{Granted};
 use crate::check_file;
 use contents::bytes::read16;
 use contents::limits::MESSAGE_SIZE;
-use contents::{Counts, Verdict, messages_at, read_counts, text_at};
+use contents::{Counts, messages_at, read_counts, text_at};
 
 // Where a label lies in the file.
 #[derive(Clone, Copy)]
@@ -43,9 +43,8 @@ pub fn accepted_span(file: &[u8], n: u64) -> Span
 pub fn label_span(file: &[u8], n: u64) -> Span
     ensures { (result ≡ label_span file.now n) × (result.start + result.size ≤ length file.now) }
 {
-    let v = check_file(file);
-    let Verdict::Fine = v else {
+    if check_file(file).is_err() {
         return Span { start: 0, size: 0 };
-    };
+    }
     accepted_span(file, n)
 }

@@ -3,7 +3,7 @@ ghost use Rattle.std.specs.Prelude.{◌≡◌};
 ghost use Rattle.session.specs.Replies.{refusal_row};
 
 use crate::Refusal;
-use contents::{Reply, Verdict};
+use contents::Reply;
 
 fn row(number: usize) -> Reply
     ensures { result ≡ record { number = number; place = 0 } }
@@ -18,7 +18,7 @@ pub fn refusal_row(x: Refusal) -> Reply
     match x {
         Refusal::MemoryShort => row(1),
         Refusal::RoomShort => row(2),
-        Refusal::File(f) => contents::replied(Verdict::Refused(f)),
+        Refusal::File(f) => contents::replied(Err(f)),
         Refusal::BadTempo => row(9),
         Refusal::BadGrace => row(19),
         Refusal::NoSession => row(10),

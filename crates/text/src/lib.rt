@@ -5,7 +5,7 @@ ghost use Rattle.std.specs.Prelude.{◌≡◌, Err};
 ghost use Rattle.text.specs.declared.TextError.TheVariants.{BadFile};
 ghost use Rattle.text.specs.Replies.{transcript_row};
 
-use contents::{Fault, Verdict, replied};
+use contents::{Fault, replied};
 
 // What may stand next in a text.
 #[derive(Clone, Copy)]
@@ -67,7 +67,7 @@ fn row(number: usize, line: usize, column: usize, size: usize) -> TextReply
 fn file_row(fault: Fault) -> TextReply
     ensures { result ≡ transcript_row (Err (BadFile fault)) }
 {
-    let r = replied(Verdict::Refused(fault));
+    let r = replied(Err(fault));
     TextReply {
         number: r.number,
         place: r.place,

@@ -8,13 +8,12 @@ use native.Mathlib.Omega.{arith}
 use lib.ListN.{length, take}
 use lib.Seq.{length-take-le}
 use borrow.Author.Rules.{rules}
+use Rattle.std.specs.Prelude.{Result, Ok, Err}
 use Rattle.base.specs.Tests.{pick}
 use Rattle.ascii.specs.Laying.{Laid}
 use Rattle.ascii.proofs.LayLaws.{laid-join, laid-nothing}
 use Rattle.contents.specs.declared.Counts.{Counts}
 use Rattle.contents.specs.declared.Fault.{Fault}
-use Rattle.contents.specs.declared.Verdict.{Verdict}
-use Rattle.contents.specs.declared.Verdict.TheVariants.{Fine, Refused}
 use Rattle.contents.specs.Limits.{event_size, most_events, longest_score}
 use Rattle.contents.specs.Bytes.{u32_at}
 use Rattle.contents.specs.Inner.{Counted}
@@ -62,14 +61,14 @@ pub ruleset copies = (durations-none, durations-step, durations-all, rules)
 
 -- ---- the answer
 
-module _ (f m m' : List ℕ) (v : Verdict) (a : Settled f m m' v) where
-  pub settle-refused : (x : Fault) → v ≡ Refused x → Settles f m m' (BadFile x)
+module _ (f m m' : List ℕ) (v : Result (Unit {0}) Fault) (a : Settled f m m' v) where
+  pub settle-refused : (x : Fault) → v ≡ Err x → Settles f m m' (BadFile x)
   unfolding judged room_left settled
   settle-refused x p =
       let z = verdict-refused (checked f) v x a.verdict p in
       record { answer = rw z; left = rw z at a.left }
 
-  pub settle-made : v ≡ Fine → Settles f m m' (Made (length f))
+  pub settle-made : v ≡ Ok tt → Settles f m m' (Made (length f))
   unfolding judged room_left settled
   settle-made p =
       let z = verdict-fine (checked f) v a.verdict p in

@@ -9,7 +9,7 @@ ghost use Rattle.unfolder.specs.Inner.{Answers, Settles, Built};
 
 use contents::bytes::read32;
 use contents::limits::{EVENT_SIZE, LONGEST_SCORE};
-use contents::{Counts, Verdict};
+use contents::Counts;
 use extended::layout::EXTENDED_CONTENTS;
 use filing::{join, put32, settle_file};
 use unfolding::Unfolding;
@@ -38,8 +38,8 @@ fn settle(file: &[u8], room: &mut [u8]) -> Unfolding
 {
     let settled = settle_file(file, room);
     match settled {
-        Verdict::Fine => Unfolding::Made { size: file.len() },
-        Verdict::Refused(fault) => Unfolding::BadFile { fault },
+        Ok(()) => Unfolding::Made { size: file.len() },
+        Err(fault) => Unfolding::BadFile { fault },
     }
 }
 

@@ -7,6 +7,7 @@ use Prim.Native.Nat.{ℕ, zero, suc, ◌+◌, ◌<◌, ◌≤◌}
 use native.Mathlib.Omega.{arith}
 use lib.ListN.{length, take, drop, length-append}
 use borrow.Author.Tests.{le-leb, lt-ltb}
+use Rattle.std.specs.Prelude.{Result, Ok, Err}
 use Rattle.page.specs.declared.Item.{Item}
 use Rattle.base.specs.Tests.{pick, every, one_of}
 use Rattle.base.specs.Checks.{Check, fine, refused}
@@ -17,8 +18,6 @@ use Rattle.contents.specs.declared.Counts.{Counts}
 use Rattle.contents.specs.Limits.{item_size, most_actions, deepest}
 use Rattle.contents.specs.Contents.{items_at}
 use Rattle.contents.specs.Replies.{rule_row, fault_row}
-use Rattle.items.specs.declared.walk.Walk.{Walk}
-use Rattle.items.specs.declared.walk.Walk.TheVariants.{Actions, Stop}
 use Rattle.items.specs.declared.Setting.{Setting}
 use Rattle.items.specs.Items.{item_at, items_from, kind_right, nesting_right, actions_right, item_right, within_of, next, inside, onward, broken_at, on_from, walk_of, walked, outset, walk_fault, items_right}
 use Rattle.items.proofs.WalkLaws.{within-action, own-action, within_group, own-group}
@@ -73,21 +72,21 @@ module _ (i : Item) (c : Counts) (h : Setting) (left n : ℕ) (shallow : h.depth
 
 -- ---- the walk: to the end, with so many actions, or to the fault of another rule
 
-data Walks (m : ℕ) : Walk → Type 0 where
-  ends : Walks m (Actions m)
-  stops : {x : Fault} → Told Other x → Walks m (Stop x)
+data Walks (m : ℕ) : Result ℕ Fault → Type 0 where
+  ends : Walks m (Ok m)
+  stops : {x : Fault} → Told Other x → Walks m (Err x)
 
-walks_from : (m : ℕ) (v : Check ItemRule) (at : ℕ) (w : Walk) → Finds OtherRule v → Walks m w → Walks m (on_from v at w)
+walks_from : (m : ℕ) (v : Check ItemRule) (at : ℕ) (w : Result ℕ Fault) → Finds OtherRule v → Walks m w → Walks m (on_from v at w)
 unfolding on_from fault_row
 walks_from m fine at w no_fault h = h
 walks_from m (refused r) at w (some_fault p) h = stops {x = broken_at at r} p
 
-walks-onward : (k m : ℕ) {w : Walk} (more : ℕ → Walk) → Walks k w → Walks m (more k) → Walks m (onward w more)
+walks-onward : (k m : ℕ) {w : Result ℕ Fault} (more : ℕ → Result ℕ Fault) → Walks k w → Walks m (more k) → Walks m (onward w more)
 unfolding onward
 walks-onward k m more ends h = h
 walks-onward k m more (stops p) h = stops p
 
-walks-finds : {m : ℕ} {w : Walk} → Walks m w → Finds (Told Other) (walk_fault w)
+walks-finds : {m : ℕ} {w : Result ℕ Fault} → Walks m w → Finds (Told Other) (walk_fault w)
 unfolding walk_fault
 walks-finds ends = no_fault
 walks-finds (stops p) = some_fault p

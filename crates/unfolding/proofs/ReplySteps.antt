@@ -2,16 +2,16 @@
 -- Assumes nothing.
 use mathlib.Core.Path.{◌≡◌}
 use borrow.Author.Rules.{rules}
+use Rattle.std.specs.Prelude.{Err}
 use Rattle.contents.specs.declared.Fault.{Fault}
 use Rattle.contents.specs.declared.Reply.{Reply}
-use Rattle.contents.specs.declared.Verdict.TheVariants.{Refused}
 use Rattle.contents.specs.Replies.{reply_of}
 use Rattle.unfolding.specs.declared.Unfolding.{Unfolding}
 use Rattle.unfolding.specs.declared.Unfolding.TheVariants.{BadFile}
 use Rattle.unfolding.specs.declared.UnfoldReply.{UnfoldReply}
 use Rattle.unfolding.specs.Replies.{unfold_row}
 
-pub row-file : (x : Fault) (r : Reply) (w : UnfoldReply) → r ≡ reply_of (Refused x) → w ≡ record { number = r.number; place = r.place; size = 0 } → w ≡ unfold_row (BadFile x)
+pub row-file : (x : Fault) (r : Reply) (w : UnfoldReply) → r ≡ reply_of (Err x) → w ≡ record { number = r.number; place = r.place; size = 0 } → w ≡ unfold_row (BadFile x)
 unfolding unfold_row reply_of
 row-file x r w e p = rw e at p
 

@@ -5,7 +5,7 @@ ghost use Rattle.std.specs.Prelude.{◌≡◌};
 ghost use Rattle.unfolding.specs.declared.Unfolding.TheVariants.{BadFile};
 ghost use Rattle.unfolding.specs.Replies.{unfold_row};
 
-use contents::{Fault, Verdict, replied};
+use contents::{Fault, replied};
 
 // What comes of an extended score that is unfolded.
 #[derive(Clone, Copy)]
@@ -44,7 +44,7 @@ fn row(number: usize, place: usize, size: usize) -> UnfoldReply
 fn file_row(fault: Fault) -> UnfoldReply
     ensures { result ≡ unfold_row (BadFile fault) }
 {
-    let r = replied(Verdict::Refused(fault));
+    let r = replied(Err(fault));
     row(r.number, r.place, 0)
 }
 

@@ -12,8 +12,6 @@ use borrow.Author.Rules.{rules}
 use Rattle.base.specs.Tests.{pick}
 use Rattle.ascii.specs.Laying.{Laid}
 use Rattle.contents.specs.declared.Fault.{Fault}
-use Rattle.contents.specs.declared.Verdict.{Verdict}
-use Rattle.contents.specs.declared.Verdict.TheVariants.{Fine, Refused}
 use Rattle.contents.specs.Replies.{verdict_of}
 use Rattle.contents.proofs.Verdicts.{verdict-fine, verdict-refused}
 use Rattle.score.specs.Piece.{Piece, decode}
@@ -106,12 +104,12 @@ pub ruleset fronts = (front-count, front-fitted, front-left, rules)
 
 -- ---- any file
 
-module _ (f room : List ℕ) (v : Verdict) (told : v ≡ verdict_of (checked f)) where
-  pub file-refused : (x : Fault) → v ≡ Refused x → Err (BadFile x) ≡ write_answer (length room) f
+module _ (f room : List ℕ) (v : Result (Unit {0}) Fault) (told : v ≡ verdict_of (checked f)) where
+  pub file-refused : (x : Fault) → v ≡ Err x → Err (BadFile x) ≡ write_answer (length room) f
   unfolding write_answer allowed
   file-refused x e = rw (verdict-refused (checked f) v x told e)
 
-  pub file-written : (t : Result ℕ TextError) → v ≡ Fine → t ≡ fitted (length room) (written (decode f)) → t ≡ write_answer (length room) f
+  pub file-written : (t : Result ℕ TextError) → v ≡ Ok tt → t ≡ fitted (length room) (written (decode f)) → t ≡ write_answer (length room) f
   unfolding write_answer allowed
   file-written t e p = rw (verdict-fine (checked f) v told e) p
 

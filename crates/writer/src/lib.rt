@@ -8,7 +8,6 @@ ghost use Rattle.text.specs.Written.{written};
 ghost use Rattle.text.specs.Transcripts.{fitted, write_answer, room_left};
 
 use ascii::put_bytes;
-use contents::Verdict;
 use pages::put_text;
 use score::check_file;
 use text::TextError;
@@ -52,7 +51,7 @@ pub fn write_text(file: &[u8], room: &mut [u8]) -> Result<usize, TextError>
 {
     let v = check_file(file);
     match v {
-        Verdict::Fine => write_accepted(file, room),
-        Verdict::Refused(x) => Err(TextError::BadFile { fault: x }),
+        Ok(()) => write_accepted(file, room),
+        Err(x) => Err(TextError::BadFile { fault: x }),
     }
 }

@@ -12,15 +12,9 @@ returns-then-mem-lt-MEMORY_SIZE c = search openings
 pub check_file-v-requires : goal.check_file-v-requires
 check_file-v-requires c = search rules
 
-pub enum_known-v : goal.enum_known-v
-enum_known-v c = search rules
-
-pub returns-in-Refused : goal.returns-in-Refused
+pub returns-in-Err : goal.returns-in-Err
 unfolding opening_check
-returns-in-Refused c = search openings
-
-pub enum_told-1 : goal.enum_told-1
-enum_told-1 c = search rules
+returns-in-Err c = search openings
 
 pub returns-then-tempo-lt1 : goal.returns-then-tempo-lt1
 unfolding opening_check

@@ -6,20 +6,14 @@ use Rattle.reader.proofs.making.settle.Goals as goal
 pub settle_file-settled-requires : goal.settle_file-settled-requires
 settle_file-settled-requires c = search settles
 
-pub enum_told-1 : goal.enum_told-1
-enum_told-1 c = search settles
+pub shape_of-room-in-Ok : goal.shape_of-room-in-Ok
+shape_of-room-in-Ok c = search settles
 
-pub enum_known-settled : goal.enum_known-settled
-enum_known-settled c = search settles
+pub returns-in-Ok : goal.returns-in-Ok
+returns-in-Ok c = search settles
 
-pub shape_of-room-in-Fine : goal.shape_of-room-in-Fine
-shape_of-room-in-Fine c = search settles
+pub shape_of-room-in-Err : goal.shape_of-room-in-Err
+shape_of-room-in-Err c = search settles
 
-pub returns-in-Fine : goal.returns-in-Fine
-returns-in-Fine c = search settles
-
-pub shape_of-room-in-Refused : goal.shape_of-room-in-Refused
-shape_of-room-in-Refused c = search settles
-
-pub returns-in-Refused : goal.returns-in-Refused
-returns-in-Refused c = search settles
+pub returns-in-Err : goal.returns-in-Err
+returns-in-Err c = search settles
