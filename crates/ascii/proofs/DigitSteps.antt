@@ -13,7 +13,7 @@ use borrow.Author.Rules.{rules}
 use Rattle.ascii.specs.Words.{zero_digit}
 use Rattle.ascii.specs.Decimals.{most_places, digits_of, decimal}
 use Rattle.ascii.specs.Laying.{Laid}
-use Rattle.ascii.proofs.LayLaws.{laid_none, laid-byte, laid-before}
+use Rattle.ascii.proofs.LayLaws.{laid-nothing, laid-byte, laid-before}
 use Rattle.ascii.proofs.DecimalLaws.{digits-one, digits_more, fewer, second-place}
 
 -- ---- how many there are
@@ -120,7 +120,7 @@ filled bytes at (suc k) n = filled (set bytes (at + k) (zero_digit + n % 10)) at
 
 none_filled : (n at : ℕ) (o : List ℕ) → at + length (digits_of zero n) ≤ length o → Laid o at (digits_of zero n) (filled o at (length (digits_of zero n)) n) (at + length (digits_of zero n))
 unfolding digits_of filled
-none_filled n at o p = laid_none o [] at p
+none_filled n at o p = let z : at + 0 ≡ at = omega arith in rw z (laid-nothing o at (omega arith))
 
 one-filled : (o : List ℕ) (at n : ℕ) → at + 1 ≤ length o → Laid o at ((zero_digit + n % 10) ∷ []) (filled o at 1 n) (at + 1)
 unfolding filled

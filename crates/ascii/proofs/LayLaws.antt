@@ -5,9 +5,11 @@ use mathlib.Core.List.{List, [], ◌∷◌, ◌++◌, append_assoc, append-nil}
 use Prim.Native.Nat.{ℕ, ◌+◌, ◌-◌, ◌<◌, ◌≤◌}
 use native.Mathlib.Numerals.{add-one}
 use native.Mathlib.Omega.{arith}
-use lib.ListN.{length, take, drop, get_or, set, replicate, length-append, length-set, replicate-append-replicate}
-use lib.Seq.{take-suc, take-add, take-length, take-set-le, take-suc-set, drop-cons, drop-set-lt, drop-drop, get_or-set_same}
+use lib.ListN.{length, take, drop, set, replicate, length-append, length-set, length-take, length-drop, length-replicate}
+use lib.Seq.{take-add, take-set-le, take-suc-set, drop-cons, drop-set-lt, drop-drop, get_or-set_same}
 use borrow.Author.Rules.{rules}
+use borrow.Rule.Slice.PartMut.{put_mid, same_len_mid}
+use Rattle.std.proofs.lemmas.Slice.{take-put_mid, drop-put_mid}
 use Rattle.ascii.specs.Words.{space}
 use Rattle.ascii.specs.Laying.{Laid}
 
@@ -62,43 +64,25 @@ laid-before o m xs a b v p laid =
 pub laid-nothing : (o : List ℕ) (a : ℕ) → a ≤ length o → Laid o a [] o a
 laid-nothing o a p = record { front = sym (append-nil (take a o)); others = refl; stop = omega arith; within = p; size = refl }
 
--- ---- byte by byte
+-- ---- a part of the lent bytes overwritten
 
-pub laid_none : (o s : List ℕ) (a : ℕ) → a + length s ≤ length o → Laid o a (take 0 s) o (a + 0)
-laid_none o s a p =
-    let z : a + 0 ≡ a = omega arith in
-    record { front = rw z (sym (append-nil (take a o))); others = refl; stop = refl; within = omega arith; size = refl }
+pub laid-part : (o s ys : List ℕ) (a : ℕ) → a + length s ≤ length o → ys ≡ s → Laid o a s (put_mid a (a + length s - a) o ys) (a + length s)
+laid-part o s ys a p e =
+    let l : length ys ≡ length s = ap (λ (l : List ℕ). length l) e in
+    let k : a + length s - a ≡ length s = omega arith in
+    let z : length (put_mid a (a + length s - a) o ys) ≡ length o = same_len_mid a (a + length s - a) o ys (omega (arith, length-take {A = ℕ}, length-drop {A = ℕ})) in
+    record {
+      front = rw (← e) (take-put_mid a (a + length ys - a) o ys (a + length ys) refl (omega arith));
+      others = drop-put_mid a (a + length s - a) o ys (a + length s) (omega arith) (omega arith) (omega arith);
+      stop = refl;
+      within = omega arith;
+      size = z;
+    }
 
-module _ (o s m : List ℕ) (a i : ℕ) (laid : Laid o a (take i s) m (a + i)) where
-  pub laid-step : i < length s → a + length s ≤ length o → Laid o a (take (i + 1) s) (set m (a + i) (get_or s i 0)) (a + (i + 1))
-  laid-step p q =
-      let e : length m ≡ length o = laid.size in
-      let z : a + i + 1 ≡ a + (i + 1) = omega arith in
-      let r : Laid o a (take i s ++ (get_or s i 0 ∷ [])) (set m (a + i) (get_or s i 0)) (a + i + 1) = laid-join o m _ _ _ a (a + i) _ laid (laid-byte m (a + i) (get_or s i 0) (omega arith)) in
-      let t : take (i + 1) s ≡ take i s ++ (get_or s i 0 ∷ []) = rw add-one (take-suc s i 0 p) in
-      rw (t, ← z) r
+pub laid-spaces : (o ys : List ℕ) (a count : ℕ) → a + count ≤ length o → ys ≡ replicate (length (take (a + count - a) (drop a o))) space → Laid o a (replicate count space) (put_mid a (a + count - a) o ys) (a + count)
+laid-spaces o ys a count p e =
+    let l : length (take (a + count - a) (drop a o)) ≡ count = omega (arith, length-take {A = ℕ}, length-drop {A = ℕ}) in
+    let n : length (replicate count space) ≡ count = length-replicate count space in
+    rw n at (laid-part o (replicate count space) ys a (omega arith) (rw l at e))
 
-  pub laid-whole : i ≤ length s → length s ≤ i → Laid o a s m (a + length s)
-  laid-whole p q =
-      let e : i ≡ length s = omega arith in
-      rw (e, take-length s) at laid
-
-pub ruleset copying = (laid_none, laid-step, laid-whole, laid-byte, rules)
-
--- ---- spaces
-
-pub spaces-none : (o : List ℕ) (a count : ℕ) → a + count ≤ length o → Laid o a (replicate 0 space) o (a + 0)
-spaces-none o a count p = let z : a + 0 ≡ a = omega arith in rw z (laid-nothing o a (omega arith))
-
-module _ (o : List ℕ) (a count : ℕ) (m : List ℕ) (i : ℕ) (laid : Laid o a (replicate i space) m (a + i)) where
-  pub spaces-step : i < count → a + count ≤ length o → Laid o a (replicate (i + 1) space) (set m (a + i) space) (a + (i + 1))
-  spaces-step p q =
-      let z : a + i + 1 ≡ a + (i + 1) = omega arith in
-      let e : length m ≡ length o = laid.size in
-      rw (← (replicate-append-replicate i 1 space), ← z)
-      (laid-join o m _ (replicate i space) (space ∷ []) a (a + i) (a + i + 1) laid (laid-byte m (a + i) space (omega arith)))
-
-  pub spaces-done : i ≤ count → count ≤ i → Laid o a (replicate count space) m (a + count)
-  spaces-done p q = let e : i ≡ count = omega arith in rw e at laid
-
-pub ruleset spacing = (spaces-none, spaces-step, spaces-done, rules)
+pub ruleset copying = (laid-byte, rules)

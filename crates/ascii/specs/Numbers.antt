@@ -1,8 +1,6 @@
 -- "A number has 1 to 10 digits". Leading zeros are fine within them.
-use Rattle.std.specs.Prelude.{ℕ, ◌+◌, ◌-◌, ◌*◌, Bool, true, List, [], ◌∷◌, length}
+use Rattle.std.specs.Prelude.{ℕ, ◌+◌, ◌-◌, ◌*◌, Bool, true, List, [], ◌∷◌, length, Option, Some, None}
 use Rattle.base.specs.Tests.{pick, every, between}
-use Rattle.ascii.specs.declared.Number.{Number}
-use Rattle.ascii.specs.declared.Number.TheVariants.{Read, Unreadable}
 use Rattle.ascii.specs.Words.{zero_digit, nine_digit}
 
 abbrev pub most_digits : ℕ
@@ -27,5 +25,5 @@ value_from sum (b ∷ bs) = value_from (10 * sum + (b - zero_digit)) bs
 unfoldable pub value : List ℕ → ℕ
 value bs = value_from 0 bs
 
-unfoldable pub number_of : List ℕ → Number
-number_of bs = pick (is_number bs) (Read (value bs)) Unreadable
+unfoldable pub number_of : List ℕ → Option ℕ
+number_of bs = pick (is_number bs) (Some (value bs)) None

@@ -11,12 +11,9 @@ pub fn put_bytes(out: &mut [u8], at: usize, src: &[u8]) -> usize
     requires { at + length src.now ≤ length out.old }
     ensures { Laid out.old at src.now out.new result }
 {
-    let mut i = 0;
-    while i < src.len() {
-        out[at + i] = src[i];
-        i += 1;
-    }
-    at + src.len()
+    let end = at + src.len();
+    out[at..end].copy_from_slice(src);
+    end
 }
 
 // One byte more.
@@ -33,12 +30,9 @@ pub fn put_spaces(out: &mut [u8], at: usize, count: usize) -> usize
     requires { at + count ≤ length out.old }
     ensures { Laid out.old at (replicate count space) out.new result }
 {
-    let mut i = 0;
-    while i < count {
-        out[at + i] = SPACE;
-        i += 1;
-    }
-    at + count
+    let end = at + count;
+    out[at..end].fill(SPACE);
+    end
 }
 
 // The number's last digit.

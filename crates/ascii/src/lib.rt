@@ -12,10 +12,3 @@ mod words;
 pub const SPACE: u8 = b' ';
 
 pub const NEWLINE: u8 = b'\n';
-
-// Bytes read as a number.
-#[derive(Clone, Copy)]
-pub enum Number {
-    Read(u64),
-    Unreadable,
-}

@@ -6,42 +6,19 @@ ghost use Rattle.ascii.specs.Words.{begins, same, bytes_before};
 pub fn begins(word: &[u8], bytes: &[u8]) -> bool
     ensures { result ≡ begins word.now bytes.now }
 {
-    let mut i = 0;
-    while i < word.len() {
-        if bytes.len() <= i {
-            return false;
-        }
-        let w = word[i];
-        let b = bytes[i];
-        if w != b {
-            return false;
-        }
-        i += 1;
-    }
-    true
+    bytes.starts_with(word)
 }
 
 // Whether the bytes are this word.
 pub fn same(word: &[u8], bytes: &[u8]) -> bool
     ensures { result ≡ same word.now bytes.now }
 {
-    if word.len() != bytes.len() {
-        return false;
-    }
-    begins(word, bytes)
+    word == bytes
 }
 
 // How many bytes stand before the first that is `stop`: all of them where none is.
 pub fn bytes_before(stop: u8, bytes: &[u8]) -> usize
     ensures { (result ≡ bytes_before stop bytes.now) × (result ≤ length bytes.now) }
 {
-    let mut i = 0;
-    while i < bytes.len() {
-        let b = bytes[i];
-        if b == stop {
-            return i;
-        }
-        i += 1;
-    }
-    i
+    bytes.iter().position(|&b| b == stop).unwrap_or(bytes.len())
 }

@@ -11,15 +11,12 @@ use lib.Seq.{take_all, length-take-le}
 use lib.Dec.{leb, eqb}
 use borrow.Author.Tests.{le-leb, lt-leb}
 use borrow.Author.Rules.{rules}
+use Rattle.std.specs.Prelude.{Option, Some, None}
 use Rattle.base.specs.Tests.{pick, every, between}
 use Rattle.base.proofs.TestLaws.{every-pass, every-stop, every-end, pick_true, pick-false}
-use Rattle.ascii.specs.declared.Number.{Number}
-use Rattle.ascii.specs.declared.Number.TheVariants as number
 use Rattle.ascii.specs.Words.{space, begins, bytes_before}
 use Rattle.ascii.specs.Numbers.{is_number, value, number_of}
 use Rattle.ascii.proofs.NumberSteps.{not-two, told-number, told-value, told_none}
-use Rattle.lines.specs.declared.commands.Pair.{Pair}
-use Rattle.lines.specs.declared.commands.Pair.TheVariants as pair
 use Rattle.lines.specs.declared.Command.{Command}
 use Rattle.lines.specs.declared.Command.TheVariants.{Open, Hear, Pass, Bad}
 use Rattle.lines.specs.Words.{open_command, hear_command, pass_command}
@@ -40,7 +37,7 @@ module _ (bs : List ℕ) (stop : ℕ) (at : stop ≡ bytes_before space bs) wher
   unfolding other_words
   other-words = rw (← at, ← add-one stop, take_all (length bs - (stop + 1)) (drop (stop + 1) bs) (simp length-drop (omega arith)))
 
-  pub pair-alone : length bs ≤ stop → pair.Unreadable ≡ pair_of bs
+  pub pair-alone : length bs ≤ stop → None ≡ pair_of bs
   unfolding pair_of two_numbers other_words
   pair-alone p =
       let l : length bs ≤ suc (bytes_before space bs) = omega arith in
@@ -48,17 +45,17 @@ module _ (bs : List ℕ) (stop : ℕ) (at : stop ≡ bytes_before space bs) wher
       let f : is_number (drop (suc (bytes_before space bs)) bs) ≡ false = rw n no_bytes in
       pick-false _ _ _ _ (not-two _ _ f) refl
 
-  module _ (v : Number) (ev : v ≡ number_of (take stop bs)) where
-    pub pair-no-first : v ≡ number.Unreadable → pair.Unreadable ≡ pair_of bs
+  module _ (v : Option ℕ) (ev : v ≡ number_of (take stop bs)) where
+    pub pair-no-first : v ≡ None → None ≡ pair_of bs
     unfolding pair_of two_numbers
     pair-no-first p = pick-false _ _ _ _ (sym (every-stop _ _ (rw first-word (told_none (take stop bs) v ev p)))) refl
 
-    module _ (w : Number) (ew : w ≡ number_of (take (length bs - (stop + 1)) (drop (stop + 1) bs))) where
-      pub pair-no-other : w ≡ number.Unreadable → pair.Unreadable ≡ pair_of bs
+    module _ (w : Option ℕ) (ew : w ≡ number_of (take (length bs - (stop + 1)) (drop (stop + 1) bs))) where
+      pub pair-no-other : w ≡ None → None ≡ pair_of bs
       unfolding pair_of two_numbers
       pair-no-other p = pick-false _ _ _ _ (not-two _ _ (rw other-words (told_none _ w ew p))) refl
 
-      pub pair_read : (a b : ℕ) → v ≡ number.Read a → w ≡ number.Read b → pair.Read a b ≡ pair_of bs
+      pub pair_read : (a b : ℕ) → v ≡ Some a → w ≡ Some b → Some (a, b) ≡ pair_of bs
       unfolding pair_of two_numbers
       pair_read a b p q =
           let f : is_number (first_word bs) ≡ true = rw first-word (told-number _ v ev a p) in
@@ -71,36 +68,38 @@ pub ruleset pairs = (pair-alone, pair-no-first, pair-no-other, pair_read, length
 
 -- ---- what reading two numbers told
 
-two-told : (a b x y : ℕ) (t : Bool) → pick t (pair.Read x y) pair.Unreadable ≡ pair.Read a b → (t ≡ true) × (a ≡ x) × (b ≡ y)
+two-told : (a b x y : ℕ) (t : Bool) → pick {A = Option (ℕ × ℕ)} t (Some (x, y)) None ≡ Some (a, b) → (t ≡ true) × (a ≡ x) × (b ≡ y)
 unfolding pick
-two-told a b x y true e = (refl, cc, cc)
+two-told a b x y true e =
+    let q : ◌≡◌ {A = ℕ × ℕ} (x, y) (a, b) = cc in
+    (refl, ap (λ (p : ℕ × ℕ). p.0) (sym q), ap (λ (p : ℕ × ℕ). p.1) (sym q))
 two-told a b x y false e = let z : ◌≡◌ {A = ℕ} 0 1 = cc in absurd (omega arith)
 
-two-not : (x y : ℕ) (t : Bool) → pick t (pair.Read x y) pair.Unreadable ≡ pair.Unreadable → t ≡ false
+two-not : (x y : ℕ) (t : Bool) → pick {A = Option (ℕ × ℕ)} t (Some (x, y)) None ≡ None → t ≡ false
 unfolding pick
 two-not x y true e = let z : ◌≡◌ {A = ℕ} 0 1 = cc in absurd (omega arith)
 two-not x y false e = refl
 
 -- ---- what follows the letter
 
-module _ (bs : List ℕ) (v : Pair) (e : v ≡ pair_of bs) where
-  told-pair : (a b : ℕ) → v ≡ pair.Read a b → (two_numbers bs ≡ true) × (a ≡ value (first_word bs)) × (b ≡ value (other_words bs))
+module _ (bs : List ℕ) (v : Option (ℕ × ℕ)) (e : v ≡ pair_of bs) where
+  told-pair : (a b : ℕ) → v ≡ Some (a, b) → (two_numbers bs ≡ true) × (a ≡ value (first_word bs)) × (b ≡ value (other_words bs))
   unfolding pair_of
   told-pair a b p = two-told a b _ _ (two_numbers bs) (sym e ∙ p)
 
-  told-no-pair : v ≡ pair.Unreadable → two_numbers bs ≡ false
+  told-no-pair : v ≡ None → two_numbers bs ≡ false
   unfolding pair_of
   told-no-pair p = two-not _ _ (two_numbers bs) (sym e ∙ p)
 
-  pub open_none : v ≡ pair.Unreadable → Bad ≡ open_of bs
+  pub open_none : v ≡ None → Bad ≡ open_of bs
   unfolding open_of
   open_none p = pick-false _ _ _ _ (sym (every-stop _ _ (told-no-pair p))) refl
 
-  pub hear-none : v ≡ pair.Unreadable → Bad ≡ hear_of bs
+  pub hear-none : v ≡ None → Bad ≡ hear_of bs
   unfolding hear_of
   hear-none p = pick-false _ _ _ _ (told-no-pair p) refl
 
-  module _ (a b : ℕ) (p : v ≡ pair.Read a b) where
+  module _ (a b : ℕ) (p : v ≡ Some (a, b)) where
     pub open-over : most_parts < a → Bad ≡ open_of bs
     unfolding open_of
     open-over l =
@@ -118,12 +117,12 @@ module _ (bs : List ℕ) (v : Pair) (e : v ≡ pair_of bs) where
     unfolding hear_of
     hear-read = let t = told-pair a b p in pick_true _ _ _ _ t.0 (cc)
 
-module _ (bs : List ℕ) (v : Number) (e : v ≡ number_of bs) where
-  pub pass-none : v ≡ number.Unreadable → Bad ≡ pass_of bs
+module _ (bs : List ℕ) (v : Option ℕ) (e : v ≡ number_of bs) where
+  pub pass-none : v ≡ None → Bad ≡ pass_of bs
   unfolding pass_of
   pass-none p = pick-false _ _ _ _ (told_none bs v e p) refl
 
-  pub pass-read : (a : ℕ) → v ≡ number.Read a → Pass a ≡ pass_of bs
+  pub pass-read : (a : ℕ) → v ≡ Some a → Pass a ≡ pass_of bs
   unfolding pass_of
   pass-read a p = pick_true _ _ _ _ (told-number bs v e a p) (ap Pass (told-value bs v e a p))
 

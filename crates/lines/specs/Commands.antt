@@ -1,12 +1,10 @@
 -- "commands from standard input: `O parts tempo` (first, once), `H event tempo`, `T ms`, whole numbers, one space between".
-use Rattle.std.specs.Prelude.{ℕ, suc, Bool, List, [], ◌∷◌, leb, take, drop}
+use Rattle.std.specs.Prelude.{ℕ, suc, Bool, List, [], ◌∷◌, leb, take, drop, Option, Some, None}
 use Rattle.base.specs.Tests.{pick, every}
 use Rattle.ascii.specs.Words.{space, begins, bytes_before}
 use Rattle.ascii.specs.Numbers.{is_number, value}
 use Rattle.lines.specs.declared.Command.{Command}
 use Rattle.lines.specs.declared.Command.TheVariants.{Open, Hear, Pass, Bad}
-use Rattle.lines.specs.declared.commands.Pair.{Pair}
-use Rattle.lines.specs.declared.commands.Pair.TheVariants.{Read, Unreadable}
 use Rattle.lines.specs.Words.{open_command, hear_command, pass_command}
 
 -- The bytes before the first space, and those after it.
@@ -20,8 +18,8 @@ other_words bs = drop (suc (bytes_before space bs)) bs
 unfoldable pub two_numbers : List ℕ → Bool
 two_numbers bs = every (is_number (first_word bs) ∷ is_number (other_words bs) ∷ [])
 
-unfoldable pub pair_of : List ℕ → Pair
-pair_of bs = pick (two_numbers bs) (Read (value (first_word bs)) (value (other_words bs))) Unreadable
+unfoldable pub pair_of : List ℕ → Option (ℕ × ℕ)
+pair_of bs = pick (two_numbers bs) (Some (value (first_word bs), value (other_words bs))) None
 
 -- What follows the letter and its space. "parts above 65,535 make the line unreadable"
 abbrev pub most_parts : ℕ

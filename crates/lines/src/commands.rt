@@ -3,40 +3,28 @@ ghost use Rattle.std.specs.Prelude.{◌≡◌};
 ghost use Rattle.lines.specs.Commands.{pair_of, open_of, hear_of, pass_of, command_of, in_turn};
 
 use crate::Command;
-use ascii::{Number, SPACE, begins, bytes_before, read_number};
+use ascii::{SPACE, begins, bytes_before, read_number};
 
 const MOST_PARTS: u64 = 65535;
 
-// Bytes read as two numbers.
-#[derive(Clone, Copy)]
-pub enum Pair {
-    Read(u64, u64),
-    Unreadable,
-}
-
 // Two numbers, "one space between".
-fn read_pair(bytes: &[u8]) -> Pair
+fn read_pair(bytes: &[u8]) -> Option<(u64, u64)>
     ensures { result ≡ pair_of bytes.now }
 {
     let stop = bytes_before(SPACE, bytes);
     if bytes.len() <= stop {
-        return Pair::Unreadable;
+        return None;
     }
-    let other = stop + 1;
-    let Number::Read(a) = read_number(&bytes[..stop]) else {
-        return Pair::Unreadable;
-    };
-    let Number::Read(b) = read_number(&bytes[other..]) else {
-        return Pair::Unreadable;
-    };
-    Pair::Read(a, b)
+    let a = read_number(&bytes[..stop])?;
+    let b = read_number(&bytes[stop + 1..])?;
+    Some((a, b))
 }
 
 // "parts above 65,535 make the line unreadable"
 fn read_open(bytes: &[u8]) -> Command
     ensures { result ≡ open_of bytes.now }
 {
-    let Pair::Read(parts, tempo) = read_pair(bytes) else {
+    let Some((parts, tempo)) = read_pair(bytes) else {
         return Command::Bad;
     };
     if MOST_PARTS < parts {
@@ -48,7 +36,7 @@ fn read_open(bytes: &[u8]) -> Command
 fn read_hear(bytes: &[u8]) -> Command
     ensures { result ≡ hear_of bytes.now }
 {
-    let Pair::Read(event, tempo) = read_pair(bytes) else {
+    let Some((event, tempo)) = read_pair(bytes) else {
         return Command::Bad;
     };
     Command::Hear(event, tempo)
@@ -57,7 +45,7 @@ fn read_hear(bytes: &[u8]) -> Command
 fn read_pass(bytes: &[u8]) -> Command
     ensures { result ≡ pass_of bytes.now }
 {
-    let Number::Read(ms) = read_number(bytes) else {
+    let Some(ms) = read_number(bytes) else {
         return Command::Bad;
     };
     Command::Pass(ms)

@@ -9,8 +9,7 @@ use borrow.Author.Tests.{eq-eqb, ne_eqb, le-leb, lt-leb, lt-ltb, le-ltb}
 use borrow.Author.Rules.{rules}
 use Rattle.base.specs.Tests.{pick}
 use Rattle.base.proofs.TestLaws.{pick_true, pick-false, every-pass, every-stop, every-last, told-true, told-false}
-use Rattle.ascii.specs.declared.Number.{Number}
-use Rattle.ascii.specs.declared.Number.TheVariants as number
+use Rattle.std.specs.Prelude.{Option, Some, None}
 use Rattle.ascii.specs.Numbers.{number_of}
 use Rattle.ascii.specs.Text.{bytes_of}
 use Rattle.ascii.specs.Words.{begins, same}
@@ -158,12 +157,12 @@ module _ (o : Order) (i : ℕ) (arg : List ℕ) (r : Order) where
     unfolding file_taken
     file-other p e = pick-false _ _ _ _ (sym et ∙ p) e
 
-  module _ (v : Number) (ev : v ≡ number_of arg) where
-    pub number-none : v ≡ number.Unreadable → r ≡ stopped o NoNumber i → r ≡ number_taken o i arg
+  module _ (v : Option ℕ) (ev : v ≡ number_of arg) where
+    pub number-none : v ≡ None → r ≡ stopped o NoNumber i → r ≡ number_taken o i arg
     unfolding number_taken
     number-none p e = pick-false _ _ _ _ (told_none arg v ev p) e
 
-    pub number_read : (n : ℕ) → v ≡ number.Read n → r ≡ numbered o i n → r ≡ number_taken o i arg
+    pub number_read : (n : ℕ) → v ≡ Some n → r ≡ numbered o i n → r ≡ number_taken o i arg
     unfolding number_taken
     number_read n p e = pick_true _ _ _ _ (told-number arg v ev n p) (rw (told-value arg v ev n p) at e)
 

@@ -5,7 +5,7 @@ ghost use Rattle.menu.specs.Table.{row_of, any_number};
 ghost use Rattle.orders.specs.Usage.{argument_of, is_name, name_more, fresh, stopped, is_right, begun_named, begun, named, numbered, is_input, file_taken, number_taken, name_taken, taken_plain, taken_as, taken, closed, dash, ordered};
 
 use crate::{Argument, Names, Order, Usage};
-use ascii::{Number, begins, read_number, same};
+use ascii::{begins, read_number, same};
 use menu::{Command, Lookup, ROW_ROOM, find_command, put_row};
 
 // How many arguments the command takes at least, and at most.
@@ -257,7 +257,7 @@ fn take_number(o: Order, i: usize, arg: &[u8]) -> Order
     requires { o.names.count < any_number }
     ensures { result ≡ number_taken o i arg.now }
 {
-    let Number::Read(n) = read_number(arg) else {
+    let Some(n) = read_number(arg) else {
         return stopped(o, Usage::NoNumber, i);
     };
     numbered(o, i, n)

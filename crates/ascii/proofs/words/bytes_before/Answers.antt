@@ -1,23 +1,14 @@
-use Rattle.ascii.proofs.WordSteps.{looking}
+-- The first place of the byte, by the chain's clause.
+-- Assumes nothing.
+use Rattle.std.proofs.Common.{rules}
+use Rattle.std.proofs.lemmas.Iterator.{YieldsList-from_slice}
+use Rattle.std.proofs.lemmas.Iterator.Search.{position_from_yields_List}
+use borrow.Author.Tests.{tests}
+use lib.Dec.{eqb}
+use Rattle.ascii.proofs.WordSteps.{before-found_or}
 use Rattle.ascii.proofs.words.bytes_before.Goals as goal
 
-pub loop-i-init : goal.loop-i-init
-loop-i-init c = search looking
-
-pub bounds-bytes-i : goal.bounds-bytes-i
-bounds-bytes-i c = search looking
-
-pub returns-then-b-stop : goal.returns-then-b-stop
-returns-then-b-stop c = search looking
-
-pub overflow_add-i : goal.overflow_add-i
-overflow_add-i c = search looking
-
-pub loop-i-smaller : goal.loop-i-smaller
-loop-i-smaller c = search looking
-
-pub loop-i-preserved : goal.loop-i-preserved
-loop-i-preserved c = search looking
-
 pub returns : goal.returns
-returns c = search looking
+returns c =
+    let found = position_from_yields_List (λ b. eqb b c.args.stop) _ _ c.position.result c.position.ensures.ran (YieldsList-from_slice c.args.bytes.now cc) (λ x b q k. search (rules, tests)) in
+    before-found_or c.args.stop c.args.bytes.now c.position.result _ found c.unwrap_or.ensures

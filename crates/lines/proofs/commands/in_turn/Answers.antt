@@ -3,26 +3,14 @@
 use Rattle.lines.proofs.CommandSteps.{turns}
 use Rattle.lines.proofs.commands.in_turn.Goals as goal
 
-pub enum_told-1 : goal.enum_told-1
-enum_told-1 c = search turns
-
 pub returns-then-first : goal.returns-then-first
 returns-then-first c = search turns
-
-pub enum_told-in-Hear : goal.enum_told-in-Hear
-enum_told-in-Hear c = search turns
 
 pub returns-then-opened : goal.returns-then-opened
 returns-then-opened c = search turns
 
-pub enum_told-in-Pass : goal.enum_told-in-Pass
-enum_told-in-Pass c = search turns
-
 pub returns-then-opened-2 : goal.returns-then-opened-2
 returns-then-opened-2 c = search turns
-
-pub enum_told-in-Bad : goal.enum_told-in-Bad
-enum_told-in-Bad c = search turns
 
 pub returns-else-first : goal.returns-else-first
 returns-else-first c = search turns

@@ -3,26 +3,14 @@
 use Rattle.lines.proofs.CommandSteps.{letters}
 use Rattle.lines.proofs.commands.read_command.Goals as goal
 
-pub begins-requires : goal.begins-requires
-begins-requires c = search letters
-
 pub slice_bounds-read_open-count : goal.slice_bounds-read_open-count
 slice_bounds-read_open-count c = search letters
 
 pub slice_bounds-read_open-start : goal.slice_bounds-read_open-start
 slice_bounds-read_open-start c = search letters
 
-pub slice_bounds-read_open-end : goal.slice_bounds-read_open-end
-slice_bounds-read_open-end c = search letters
-
-pub read_open-requires : goal.read_open-requires
-read_open-requires c = search letters
-
 pub returns-then-begins : goal.returns-then-begins
 returns-then-begins c = search letters
-
-pub begins-requires-2 : goal.begins-requires-2
-begins-requires-2 c = search letters
 
 pub slice_bounds-read_hear-count : goal.slice_bounds-read_hear-count
 slice_bounds-read_hear-count c = search letters
@@ -30,29 +18,14 @@ slice_bounds-read_hear-count c = search letters
 pub slice_bounds-read_hear-start : goal.slice_bounds-read_hear-start
 slice_bounds-read_hear-start c = search letters
 
-pub slice_bounds-read_hear-end : goal.slice_bounds-read_hear-end
-slice_bounds-read_hear-end c = search letters
-
-pub read_hear-requires : goal.read_hear-requires
-read_hear-requires c = search letters
-
 pub returns-then-begins-2 : goal.returns-then-begins-2
 returns-then-begins-2 c = search letters
-
-pub begins-requires-3 : goal.begins-requires-3
-begins-requires-3 c = search letters
 
 pub slice_bounds-read_pass-count : goal.slice_bounds-read_pass-count
 slice_bounds-read_pass-count c = search letters
 
 pub slice_bounds-read_pass-start : goal.slice_bounds-read_pass-start
 slice_bounds-read_pass-start c = search letters
-
-pub slice_bounds-read_pass-end : goal.slice_bounds-read_pass-end
-slice_bounds-read_pass-end c = search letters
-
-pub read_pass-requires : goal.read_pass-requires
-read_pass-requires c = search letters
 
 pub returns-then-begins-3 : goal.returns-then-begins-3
 returns-then-begins-3 c = search letters
