@@ -5,7 +5,8 @@
 ghost use Rattle.std.specs.Prelude.{◌≤◌, length};
 
 use check::same;
-use sequencer::{Report, Sending};
+use sequencer::Figures;
+use session::Refusal;
 use session::layout::{MEMORY_SIZE, ROOM_SIZE};
 use std::fs::File;
 use std::os::fd::AsRawFd;
@@ -37,7 +38,7 @@ fn tell_check(v: Result<(), contents::Fault>) -> Told {
     }
 }
 
-fn tell_sent(s: Sending) -> Told {
+fn tell_sent(s: Result<usize, Refusal>) -> Told {
     let r = sequencer::sending_reply(s);
     Told {
         number: r.number,
@@ -45,7 +46,7 @@ fn tell_sent(s: Sending) -> Told {
     }
 }
 
-fn tell_report(x: Report) -> Told {
+fn tell_report(x: Result<Figures, Refusal>) -> Told {
     let r = sequencer::report_reply(x);
     Told {
         number: r.number,
@@ -65,7 +66,7 @@ fn open_score(mem: &mut [u64], file: &[u8]) -> Told {
 fn hear_all(mem: &mut [u64], room: &mut [u64]) -> Told {
     let mut event: u64 = 1;
     while event < 256 {
-        sequencer::hear(mem, room, event, FAST);
+        let _ = sequencer::hear(mem, room, event, FAST);
         event += 1;
     }
     tell_sent(sequencer::hear(mem, room, event, FAST))

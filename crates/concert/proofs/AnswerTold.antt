@@ -7,6 +7,7 @@ use mathlib.Core.List.{List, [], map}
 use native.Mathlib.Omega.{arith}
 use lib.Dec.{eqb}
 use lib.ListN.{length, length-map}
+use Rattle.std.specs.Prelude.{Result, Ok, Err}
 use Rattle.base.specs.Checks.{Check, fine, refused}
 use Rattle.contents.specs.Limits.{most_actions}
 use Rattle.session.specs.declared.Refusal.{Refusal}
@@ -14,8 +15,6 @@ use Rattle.session.specs.Layout.{room_size}
 use Rattle.session.specs.Replies.{refusal_row}
 use Rattle.sending.specs.Room.{pairs_in, filled}
 use Rattle.sending.proofs.SentLaws.{filled-length, pairs-filled}
-use Rattle.sequencer.specs.declared.Sending.{Sending}
-use Rattle.sequencer.specs.declared.Sending.TheVariants.{Sent as sent_so, Refused as not_sent}
 use Rattle.sequencer.specs.declared.SendingReply.{SendingReply}
 use Rattle.sequencer.specs.Replies.{sending_reply}
 use Rattle.demands.specs.History.{Now, kept}
@@ -57,18 +56,18 @@ not-zero x e = let z : eqb 0 0 ≡ false = rw e at (refusal-numbered x) in let y
 -- ---- a call's answer, printed: room is the send room before the call, room' and m' are room and memory after it
 
 module _ (f room room' : List ℕ) (s n : Now) where
-  pub answer-told : (m' : List ℕ) (r : Sending) (g : Check Refusal) (l : List Sent) → Small l → sending (sending_reply r) room' ≡ sending_answer g l room
+  pub answer-told : (m' : List ℕ) (r : Result ℕ Refusal) (g : Check Refusal) (l : List Sent) → Small l → sending (sending_reply r) room' ≡ sending_answer g l room
       → (figures_of m').clock ≡ (kept g s n).clock
       → sending_lines f m' room' r ≡ sending_told f g n.clock l
   unfolding sending_reply sending_answer sending_lines sending_told kept reply_in room_in
-  answer-told m' (sent_so c) fine l small e k =
+  answer-told m' (Ok c) fine l small e k =
       let count : c ≡ length l = ap (λ (a : Answer). (reply_in a).count) e in
       let words : room' ≡ filled (map message_of l) room = ap room_in e in
       let pairs : pairs_in c 0 room' ≡ map message_of l = rw (words, count, ← length-map l message_of) (pairs-filled (map message_of l) room) in
       rw (k, pairs) (messages-told f n.clock small)
-  answer-told m' (sent_so c) (refused x) l small e k = not-zero x (sym (ap (λ (a : Answer). (reply_in a).number) e))
-  answer-told m' (not_sent y) fine l small e k = not-zero y (ap (λ (a : Answer). (reply_in a).number) e)
-  answer-told m' (not_sent y) (refused x) l small e k = ap no_line (ap (λ (a : Answer). (reply_in a).number) e)
+  answer-told m' (Ok c) (refused x) l small e k = not-zero x (sym (ap (λ (a : Answer). (reply_in a).number) e))
+  answer-told m' (Err y) fine l small e k = not-zero y (ap (λ (a : Answer). (reply_in a).number) e)
+  answer-told m' (Err y) (refused x) l small e k = ap no_line (ap (λ (a : Answer). (reply_in a).number) e)
 
 -- The send room stays long enough.
 pub room-stays : (room room' : List ℕ) (r : SendingReply) (g : Check Refusal) (l : List Sent) → room_size ≤ length room → length (if_granted g l) ≤ most_actions

@@ -8,7 +8,7 @@ use Prim.Native.Nat.{ℕ, ◌*◌}
 use native.Mathlib.Omega.{arith}
 use lib.ListN.{length, drop}
 use denote.Ref.{Bor}
-use Rattle.std.specs.Prelude.{Result}
+use Rattle.std.specs.Prelude.{Result, Ok, Err}
 use Rattle.base.specs.Checks.{Check, fine, refused}
 use Rattle.contents.specs.declared.Fault.{Fault}
 use Rattle.contents.specs.Replies.{verdict_of}
@@ -23,13 +23,10 @@ use Rattle.rules.specs.Terms.{Terms}
 use Rattle.session.specs.declared.Refusal.{Refusal}
 use Rattle.session.specs.Layout.{memory_size}
 use Rattle.session.specs.Replies.{refusal_row}
-use Rattle.opening.specs.declared.Opening.TheVariants.{Refused as not_opened}
 use Rattle.opening.specs.Replies.{opening_reply}
 use Rattle.opening.specs.Opening.{opening_check, OpeningResult, opened}
 use Rattle.opening.proofs.Opened.{refused-kept}
-use Rattle.sequencer.specs.declared.Sending.TheVariants.{Sent, Refused as not_sent}
-use Rattle.sequencer.specs.declared.Report.{Report}
-use Rattle.sequencer.specs.declared.Report.TheVariants.{Refused as not_reported}
+use Rattle.sequencer.specs.declared.Figures.{Figures}
 use Rattle.sequencer.specs.Replies.{sending_reply, report_reply}
 use Rattle.sequencer.specs.Calls.{SendingResult, sent_now, if_fine, heard_check, heard_note, pass_check, passing_time, reported}
 use Rattle.sequencer.proofs.CallsKeep.{heard-keeps, pass-keeps}
@@ -37,22 +34,22 @@ use Rattle.sequencer.proofs.FirstWords.{first, cut, heard-first, pass-first, rep
 
 -- ---- "A refusal sends nothing and changes no lent word."
 
-pub refused-opening : (m f : List ℕ) (o : Terms) (x : Refusal) → opening_check m f o ≡ refused x → opened m f o ≡ record { reply = not_opened x; memory = m }
+pub refused-opening : (m f : List ℕ) (o : Terms) (x : Refusal) → opening_check m f o ≡ refused x → opened m f o ≡ record { reply = Err x; memory = m }
 refused-opening = refused-kept
 
-refused-either : (c : Check Refusal) (clock tempo last : ℕ) (m₁ m room : List ℕ) (x : Refusal) → (if_fine c (sent_now clock tempo last m₁ room) m room).reply ≡ not_sent x
-    → if_fine c (sent_now clock tempo last m₁ room) m room ≡ record { reply = not_sent x; memory = m; room = room }
+refused-either : (c : Check Refusal) (clock tempo last : ℕ) (m₁ m room : List ℕ) (x : Refusal) → (if_fine c (sent_now clock tempo last m₁ room) m room).reply ≡ Err x
+    → if_fine c (sent_now clock tempo last m₁ room) m room ≡ record { reply = Err x; memory = m; room = room }
 unfolding if_fine sent_now
 refused-either fine clock tempo last m₁ m room x e = let z : ◌≡◌ {A = ℕ} 0 1 = cc in absurd (omega arith)
 refused-either (refused y) clock tempo last m₁ m room x e = let p : y ≡ x = cc in rw p
 
-pub refused-note : (m room : List ℕ) (event tempo : ℕ) (x : Refusal) → (heard_note m room event tempo).reply ≡ not_sent x
-    → heard_note m room event tempo ≡ record { reply = not_sent x; memory = m; room = room }
+pub refused-note : (m room : List ℕ) (event tempo : ℕ) (x : Refusal) → (heard_note m room event tempo).reply ≡ Err x
+    → heard_note m room event tempo ≡ record { reply = Err x; memory = m; room = room }
 unfolding heard_note
 refused-note m room event tempo x e = refused-either (heard_check m room event tempo) _ _ _ _ m room x e
 
-pub refused-passing : (m room : List ℕ) (ms : ℕ) (x : Refusal) → (passing_time m room ms).reply ≡ not_sent x
-    → passing_time m room ms ≡ record { reply = not_sent x; memory = m; room = room }
+pub refused-passing : (m room : List ℕ) (ms : ℕ) (x : Refusal) → (passing_time m room ms).reply ≡ Err x
+    → passing_time m room ms ≡ record { reply = Err x; memory = m; room = room }
 unfolding passing_time
 refused-passing m room ms x e = refused-either (pass_check m room ms) _ _ _ _ m room x e
 
@@ -64,15 +61,15 @@ refused-look-up f n x e = rw e
 -- ---- "Beside number and place, every figure in its reply is 0."
 
 module _ (x : Refusal) where
-  pub no-parts : opening_reply (not_opened x) ≡ record { number = (refusal_row x).number; place = (refusal_row x).place; parts = 0 }
+  pub no-parts : opening_reply (Err x) ≡ record { number = (refusal_row x).number; place = (refusal_row x).place; parts = 0 }
   unfolding opening_reply
   no-parts = refl
 
-  pub no-count : sending_reply (not_sent x) ≡ record { number = (refusal_row x).number; place = (refusal_row x).place; count = 0 }
+  pub no-count : sending_reply (Err x) ≡ record { number = (refusal_row x).number; place = (refusal_row x).place; count = 0 }
   unfolding sending_reply
   no-count = refl
 
-  pub no-figures : report_reply (not_reported x)
+  pub no-figures : report_reply (Err x)
       ≡ record { number = (refusal_row x).number; place = (refusal_row x).place; figures = record { clock = 0; tempo = 0; last = 0; total = 0 } }
   unfolding report_reply
   no-figures = refl
@@ -98,11 +95,11 @@ unchanged-passing m room ms = (pass-keeps m room ms).words.past
 
 -- ---- "The first 2c words of the send room then hold [..]; the rest is unchanged."
 
-pub rest-note : (m room : List ℕ) (event tempo c : ℕ) → (heard_note m room event tempo).reply ≡ Sent c
+pub rest-note : (m room : List ℕ) (event tempo c : ℕ) → (heard_note m room event tempo).reply ≡ Ok c
     → drop (2 * c) (heard_note m room event tempo).room ≡ drop (2 * c) room
 rest-note m room event tempo c e = (heard-keeps m room event tempo).after c e
 
-pub rest-passing : (m room : List ℕ) (ms c : ℕ) → (passing_time m room ms).reply ≡ Sent c → drop (2 * c) (passing_time m room ms).room ≡ drop (2 * c) room
+pub rest-passing : (m room : List ℕ) (ms c : ℕ) → (passing_time m room ms).reply ≡ Ok c → drop (2 * c) (passing_time m room ms).room ≡ drop (2 * c) room
 rest-passing m room ms c e = (pass-keeps m room ms).after c e
 
 -- ---- no second outcome, call by call: the premises are the call's contract, of two outcomes
@@ -132,7 +129,7 @@ pub one-passing : (m room : List ℕ) (ms : ℕ) (r s : SendingResult) → passi
 one-passing m room ms r s p q = sym p ∙ q
 
 -- `read_report`
-pub one-report : (m : List ℕ) (r s : Report) → r ≡ reported m → s ≡ reported m → r ≡ s
+pub one-report : (m : List ℕ) (r s : Result Figures Refusal) → r ≡ reported m → s ≡ reported m → r ≡ s
 one-report m r s p q = p ∙ sym q
 
 -- a reply, and the room that it leaves of what was made

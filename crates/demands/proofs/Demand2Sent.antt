@@ -7,12 +7,12 @@ use mathlib.Core.List.{List, [], ◌∷◌, ◌++◌, map, Memᴰ}
 use native.Mathlib.Nat.{zero-add}
 use native.Mathlib.Omega.{arith}
 use lib.ListN.{length}
+use Rattle.std.specs.Prelude.{Ok}
 use Rattle.score.specs.Piece.{decode}
 use Rattle.score.specs.File.{Accepted}
 use Rattle.rules.specs.Terms.{Terms}
 use Rattle.session.specs.Layout.{room_size}
 use Rattle.session.specs.Parts.{sounds}
-use Rattle.sequencer.specs.declared.Report.TheVariants.{Given}
 use Rattle.sequencer.specs.Replies.{report_reply}
 use Rattle.demands.specs.History.{Call, note, pass, report, start}
 use Rattle.demands.specs.Messages.{Sent}
@@ -78,7 +78,7 @@ demand-2-count f o cs = counts-are f (decode f).durations _ 0 (start o) cs
 -- "and the report's total is the sum of them since the opening"
 pub demand-2-total : (f : List ℕ) (o : Terms) (cs : List Call)
     → answers_of f o (cs ++ (report ∷ []))
-    ≡ answers_of f o cs ++ (reporting (report_reply (Given (record {
+    ≡ answers_of f o cs ++ (reporting (report_reply (Ok (record {
       clock = (end_of f o cs).clock;
       tempo = (end_of f o cs).tempo;
       last = (end_of f o cs).last;

@@ -1,5 +1,5 @@
 -- The replies to an opening and to a list of calls after it, from the score and the history alone.
-use Rattle.std.specs.Prelude.{ℕ, ◌+◌, ◌*◌, Bool, List, [], ◌∷◌, map, length}
+use Rattle.std.specs.Prelude.{ℕ, ◌+◌, ◌*◌, Bool, List, [], ◌∷◌, map, length, Ok, Err}
 use Rattle.base.specs.Checks.{Check, fine, refused}
 use Rattle.contents.specs.declared.Reply.{Reply}
 use Rattle.contents.specs.Replies.{reply_of, verdict_of}
@@ -14,8 +14,6 @@ use Rattle.sending.specs.Room.{Message, filled}
 use Rattle.opening.specs.declared.OpeningReply.{OpeningReply}
 use Rattle.sequencer.specs.declared.SendingReply.{SendingReply}
 use Rattle.sequencer.specs.declared.ReportReply.{ReportReply}
-use Rattle.sequencer.specs.declared.Sending.TheVariants.{Sent as sent_so, Refused as not_sent}
-use Rattle.sequencer.specs.declared.Report.TheVariants.{Given}
 use Rattle.sequencer.specs.Replies.{sending_reply, report_reply}
 use Rattle.demands.specs.History.{Call, note, pass, report, look_up, Now, start, verdict, moved, after}
 use Rattle.demands.specs.Messages.{Sent, sent_between}
@@ -32,8 +30,8 @@ unfoldable pub message_of : Sent → Message
 message_of x = record { due = x.due; word = x.part * 65536 + x.message }
 
 unfoldable pub sending_answer : Check Refusal → List Sent → (room : List ℕ) → Answer
-sending_answer fine l room = sending (sending_reply (sent_so (length l))) (filled (map message_of l) room)
-sending_answer (refused x) l room = sending (sending_reply (not_sent x)) room
+sending_answer fine l room = sending (sending_reply (Ok (length l))) (filled (map message_of l) room)
+sending_answer (refused x) l room = sending (sending_reply (Err x)) room
 
 -- What a call sends where it is granted.
 unfoldable pub messages_of : (durations : List ℕ) → List Entry → Now → Call → List Sent
@@ -56,7 +54,7 @@ answer f ds es total s (note room h tempo) =
     sending_answer (verdict (length ds) s (note room h tempo)) (messages_of ds es s (note room h tempo)) room
 answer f ds es total s (pass room ms) = sending_answer (verdict (length ds) s (pass room ms)) (messages_of ds es s (pass room ms)) room
 answer f ds es total s report =
-    reporting (report_reply (Given (record { clock = s.clock; tempo = s.tempo; last = s.last; total = total })))
+    reporting (report_reply (Ok (record { clock = s.clock; tempo = s.tempo; last = s.last; total = total })))
 answer f ds es total s (look_up n) = looking (reply_of (verdict_of (label_reply f n))) (label_bytes f n)
 
 -- The answers to a list of calls, one after the other.

@@ -7,6 +7,7 @@ use Prim.Native.Nat.{ℕ, ◌<◌, ◌≤◌}
 use native.Mathlib.Omega.{arith}
 use lib.ListN.{length, get_or, drop}
 use borrow.Author.Tests.{leb-true, ne_eqb}
+use Rattle.std.specs.Prelude.{Ok, Err}
 use Rattle.base.specs.Tests.{between}
 use Rattle.base.specs.Checks.{Check, fine, refused}
 use Rattle.base.proofs.TestLaws.{between-low, between-high, every-stop}
@@ -20,7 +21,6 @@ use Rattle.session.specs.Layout.{memory_size, most_tempo, most_grace, mark_at, m
 use Rattle.session.specs.Parts.{sounding_below}
 use Rattle.session.specs.Session.{is_session}
 use Rattle.session.proofs.SoundingParts.{ones-sounding}
-use Rattle.opening.specs.declared.Opening.TheVariants.{Opened, Refused}
 use Rattle.opening.specs.Opening.{zeros, opening_check, opened}
 use Rattle.opening.proofs.ClearedLaws.{zeros-at}
 use Rattle.opening.proofs.Fitting.{Fits, accepted-fits}
@@ -59,14 +59,14 @@ module _ (m f : List ℕ) (o : Terms) (granted : opening_check m f o ≡ fine) w
       fresh-session (decode f) o m _ opened-fits opened-fresh sixteen (between-low _ _ _ opened-tempo) (between-high _ _ _ opened-tempo) opened-grace
 
   -- "replies with the number of sounding parts"
-  pub opened-sounding : o.parts < 65536 → (opened m f o).reply ≡ Opened (sounding_below o.parts 16)
+  pub opened-sounding : o.parts < 65536 → (opened m f o).reply ≡ Ok (sounding_below o.parts 16)
   unfolding opened
   opened-sounding sixteen = rw (granted, opened, ones-sounding o.parts sixteen)
 
 -- ---- any opening, granted or refused
 
 -- "A refusal sends nothing and changes no lent word."
-pub refused-kept : (m f : List ℕ) (o : Terms) (x : Refusal) → opening_check m f o ≡ refused x → opened m f o ≡ record { reply = Refused x; memory = m }
+pub refused-kept : (m f : List ℕ) (o : Terms) (x : Refusal) → opening_check m f o ≡ refused x → opened m f o ≡ record { reply = Err x; memory = m }
 unfolding opened
 refused-kept m f o x e = rw (e, opened)
 

@@ -22,27 +22,26 @@ use Rattle.fates.specs.Fields.{item_word}
 use Rattle.session.specs.declared.Refusal.{Refusal}
 use Rattle.session.specs.declared.Refusal.TheVariants.{File}
 use Rattle.session.specs.Layout.{mark_at, starts_at, page_at, tempo_at, mark}
-use Rattle.opening.specs.declared.Opening.TheVariants.{Opened, Refused}
 use Rattle.opening.specs.Opening.{with_words, starts_of, cleared, new_session, opening_check, opened}
 
 -- ---- the file check's verdict among the opening's checks
 
-pub file-pass : (f : List ℕ) (v : Result (Unit {0}) Fault) (r : Check Refusal) (l : List (Check Refusal)) → v ≡ verdict_of (checked f) → v ≡ Ok tt → r ≡ first_fault l
+pub file-pass : (f : List ℕ) (v : Result (Unit {0}) Fault) (u : Unit {0}) (r : Check Refusal) (l : List (Check Refusal)) → v ≡ verdict_of (checked f) → v ≡ Ok u → r ≡ first_fault l
     → r ≡ first_fault (renamed File (checked f) ∷ l)
-file-pass f v r l e p q = renamed-pass File _ r l (verdict-fine _ v e p) q
+file-pass f v u r l e p q = renamed-pass File _ r l (verdict-fine _ v e p) q
 
-pub file-stop : (f : List ℕ) (v : Result (Unit {0}) Fault) (x : Fault) (l : List (Check Refusal)) → v ≡ verdict_of (checked f) → v ≡ Err x
-    → refused (File x) ≡ first_fault (renamed File (checked f) ∷ l)
-file-stop f v x l e p = renamed-stop File _ x l (verdict-refused _ v x e p)
+pub file-stop : (f : List ℕ) (v : Result (Unit {0}) Fault) (x : Fault) (y : Refusal) (l : List (Check Refusal)) → v ≡ verdict_of (checked f) → v ≡ Err x → y ≡ File x
+    → refused y ≡ first_fault (renamed File (checked f) ∷ l)
+file-stop f v x y l e p q = rw q (renamed-stop File _ x l (verdict-refused _ v x e p))
 
 -- ---- each way through them
 
 module _ (m f : List ℕ) (o : Terms) where
-  pub opened-refused : (x : Refusal) → refused x ≡ opening_check m f o → opened m f o ≡ record { reply = Refused x; memory = m }
+  pub opened-refused : (x : Refusal) → refused x ≡ opening_check m f o → opened m f o ≡ record { reply = Err x; memory = m }
   unfolding opened
   opened-refused x e = rw (← e, opened)
 
-  pub opened-granted : (m' : List ℕ) → fine ≡ opening_check m f o → m' ≡ new_session (decode f) o m → opened m f o ≡ record { reply = Opened (ones o.parts); memory = m' }
+  pub opened-granted : (m' : List ℕ) → fine ≡ opening_check m f o → m' ≡ new_session (decode f) o m → opened m f o ≡ record { reply = Ok (ones o.parts); memory = m' }
   unfolding opened
   opened-granted m' e p = rw (← e, opened, p)
 

@@ -1,5 +1,5 @@
 -- The opening: "It checks a score file, opens a session on it with a set of sounding parts and a tempo", and with a grace. "Opening: 1, the file check, 9", then 19.
-use Rattle.std.specs.Prelude.{ℕ, zero, suc, ◌+◌, List, [], ◌∷◌, ◌++◌, map, leb, length, set, drop}
+use Rattle.std.specs.Prelude.{ℕ, zero, suc, ◌+◌, List, [], ◌∷◌, ◌++◌, map, leb, length, set, drop, Result, Ok, Err}
 use Rattle.std.specs.Int.Count.{ones}
 use Rattle.base.specs.Tests.{between}
 use Rattle.base.specs.Checks.{Check, fine, refused, need, first_fault, renamed}
@@ -10,8 +10,6 @@ use Rattle.fates.specs.Fields.{item_word}
 use Rattle.session.specs.declared.Refusal.{Refusal}
 use Rattle.session.specs.declared.Refusal.TheVariants.{MemoryShort, File, BadTempo, BadGrace}
 use Rattle.session.specs.Layout.{memory_size, most_tempo, most_grace, mark_at, starts_at, page_at, tempo_at, mark}
-use Rattle.opening.specs.declared.Opening.{Opening}
-use Rattle.opening.specs.declared.Opening.TheVariants.{Opened, Refused}
 
 -- ---- the words of a new session
 
@@ -56,13 +54,13 @@ opening_check m f o =
 
 -- What an opening comes to: its reply, and the session memory after it.
 pub record OpeningResult : Type 0 where
-  pub reply : Opening
+  pub reply : Result ℕ Refusal
   pub memory : List ℕ
 
 -- "A refusal sends nothing and changes no lent word."
 unfoldable pub opened : (memory file : List ℕ) → Terms → OpeningResult
 opened m f o =
     elim (opening_check m f o) [
-      | fine ↦ record { reply = Opened (ones o.parts); memory = new_session (decode f) o m }
-      | refused x ↦ record { reply = Refused x; memory = m }
+      | fine ↦ record { reply = Ok (ones o.parts); memory = new_session (decode f) o m }
+      | refused x ↦ record { reply = Err x; memory = m }
     ]

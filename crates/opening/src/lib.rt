@@ -22,13 +22,6 @@ mod replies;
 
 pub use replies::opening_reply;
 
-// An opening: how many parts sound.
-#[derive(Clone, Copy)]
-pub enum Opening {
-    Opened(u32),
-    Refused(Refusal),
-}
-
 // The reply table's number and place, and the figure beside them.
 #[derive(Clone, Copy)]
 pub struct OpeningReply {
@@ -106,26 +99,29 @@ fn begin(mem: &mut [u64], file: &[u8], parts: u16, tempo: u64, grace: u64)
     put_page(mem, file, items);
 }
 
-// Opens a session in the lent words: the file, the part bits, the tempo that it begins with and the grace, in grains.
-pub fn open_session(mem: &mut [u64], file: &[u8], parts: u16, tempo: u64, grace: u64) -> Opening
+// Opens a session in the lent words: the file, the part bits, the tempo that it begins with and the grace, in grains. It answers how many parts sound.
+pub fn open_session(
+    mem: &mut [u64],
+    file: &[u8],
+    parts: u16,
+    tempo: u64,
+    grace: u64,
+) -> Result<u32, Refusal>
     ensures { opened mem.old file.now (record { parts = parts; tempo = tempo; grace = grace }) ≡ record { reply = result; memory = mem.new } }
 {
     if mem.len() < MEMORY_SIZE {
-        return Opening::Refused(Refusal::MemoryShort);
+        return Err(Refusal::MemoryShort);
     }
-    let v = score::check_file(file);
-    if let Err(x) = v {
-        return Opening::Refused(Refusal::File(x));
-    }
+    score::check_file(file)?;
     if tempo < 1 {
-        return Opening::Refused(Refusal::BadTempo);
+        return Err(Refusal::BadTempo);
     }
     if MOST_TEMPO < tempo {
-        return Opening::Refused(Refusal::BadTempo);
+        return Err(Refusal::BadTempo);
     }
     if MOST_GRACE < grace {
-        return Opening::Refused(Refusal::BadGrace);
+        return Err(Refusal::BadGrace);
     }
     begin(mem, file, parts, tempo, grace);
-    Opening::Opened(u16::count_ones(parts))
+    Ok(parts.count_ones())
 }

@@ -2,20 +2,20 @@
 ghost use Rattle.std.specs.Prelude.{◌≡◌};
 ghost use Rattle.opening.specs.Replies.{opening_reply};
 
-use crate::{Opening, OpeningReply};
-use session::refusal_row;
+use crate::OpeningReply;
+use session::{Refusal, refusal_row};
 
 // The number of sounding parts beside number and place.
-pub fn opening_reply(o: Opening) -> OpeningReply
+pub fn opening_reply(o: Result<u32, Refusal>) -> OpeningReply
     ensures { result ≡ opening_reply o }
 {
     match o {
-        Opening::Opened(n) => OpeningReply {
+        Ok(n) => OpeningReply {
             number: 0,
             place: 0,
             parts: n,
         },
-        Opening::Refused(x) => {
+        Err(x) => {
             let r = refusal_row(x);
             OpeningReply {
                 number: r.number,

@@ -7,6 +7,7 @@ use Prim.Native.Nat.{ℕ, ◌*◌, ◌≤◌}
 use native.Mathlib.Omega.{arith}
 use lib.ListN.{length}
 use borrow.Author.Rules.{rules}
+use Rattle.std.specs.Prelude.{Result, Ok, Err}
 use Rattle.base.specs.Checks.{Check, fine, refused}
 use Rattle.ascii.specs.Laying.{Laid}
 use Rattle.contents.specs.declared.Reply.{Reply}
@@ -16,10 +17,7 @@ use Rattle.session.specs.Replies.{refusal_row}
 use Rattle.sending.specs.Room.{pairs_in}
 use Rattle.sending.specs.Sending.{sent_at}
 use Rattle.sending.proofs.SentLaws.{sent-few, filled-length}
-use Rattle.sequencer.specs.declared.Sending.{Sending}
-use Rattle.sequencer.specs.declared.Sending.TheVariants.{Sent, Refused as not_sent}
 use Rattle.sequencer.specs.declared.Figures.{Figures}
-use Rattle.sequencer.specs.declared.Report.{Report}
 use Rattle.sequencer.specs.declared.ReportReply.{ReportReply}
 use Rattle.sequencer.specs.Replies.{report_reply}
 use Rattle.sequencer.specs.Calls.{SendingResult, heard_check, pass_check, noted, clock_after, sent_now, if_fine, heard_note, passing_time, reported}
@@ -30,7 +28,7 @@ use Rattle.playing.specs.Inner.{Fits, Carries}
 
 -- ---- the send room holds what a call says that it sent
 
-refused-fits : (x : Refusal) (room : List ℕ) → Fits (not_sent x) room
+refused-fits : (x : Refusal) (room : List ℕ) → Fits (Err x) room
 refused-fits x room =
     record {
       few = λ c e. let z : ◌≡◌ {A = ℕ} 0 1 = cc in absurd (omega arith);
@@ -62,22 +60,22 @@ passing-fits m room ms =
     checked-fits (pass_check m room ms) (sent_now (clock_after m ms) (word_at m tempo_at) (word_at m last_at) m room) m room
     (λ e. granted-fits (clock_after m ms) (word_at m tempo_at) (word_at m last_at) m room (passable m room ms e).wide)
 
-module _ (m room m' room' : List ℕ) (s : Sending) where
+module _ (m room m' room' : List ℕ) (s : Result ℕ Refusal) where
   pub heard-fits : (event tempo : ℕ) → heard_note m room event tempo ≡ record { reply = s; memory = m'; room = room' } → Fits s room'
   heard-fits event tempo e = rw e at (note-fits m room event tempo)
 
   pub pass_fits : (ms : ℕ) → passing_time m room ms ≡ record { reply = s; memory = m'; room = room' } → Fits s room'
   pass_fits ms e = rw e at (passing-fits m room ms)
 
-pub fits-few : (s : Sending) (room : List ℕ) (c : ℕ) → Fits s room → s ≡ Sent c → c ≤ most_sent
+pub fits-few : (s : Result ℕ Refusal) (room : List ℕ) (c : ℕ) → Fits s room → s ≡ Ok c → c ≤ most_sent
 fits-few s room c f e = f.few c e
 
-pub fits-within : (s : Sending) (room : List ℕ) (c : ℕ) → Fits s room → s ≡ Sent c → 2 * c ≤ length room
+pub fits-within : (s : Result ℕ Refusal) (room : List ℕ) (c : ℕ) → Fits s room → s ≡ Ok c → 2 * c ≤ length room
 fits-within s room c f e = f.within c e
 
 -- ---- the report's figures
 
-pub figures-told : (m : List ℕ) (a : Report) (r : ReportReply) → a ≡ reported m → r ≡ report_reply a → r.figures ≡ figures_of m
+pub figures-told : (m : List ℕ) (a : Result Figures Refusal) (r : ReportReply) → a ≡ reported m → r ≡ report_reply a → r.figures ≡ figures_of m
 unfolding figures_of
 figures-told m a r ea er = rw (er, ea)
 
@@ -85,18 +83,18 @@ pub ruleset reports = (figures-told, rules)
 
 -- ---- what it prints
 
-module _ (f m room out new : List ℕ) (s : Sending) (n : ℕ) where
-  pub sent-laid : (x : Figures) (c : ℕ) → x ≡ figures_of m → s ≡ Sent c → Laid out 0 (sent_lines f x.clock (pairs_in c 0 room)) new n → Laid out 0 (sending_lines f m room s) new n
+module _ (f m room out new : List ℕ) (s : Result ℕ Refusal) (n : ℕ) where
+  pub sent-laid : (x : Figures) (c : ℕ) → x ≡ figures_of m → s ≡ Ok c → Laid out 0 (sent_lines f x.clock (pairs_in c 0 room)) new n → Laid out 0 (sending_lines f m room s) new n
   unfolding sending_lines
   sent-laid x c ex es laid = rw es (rw ex at laid)
 
-  pub refused-laid : (x : Refusal) (r : Reply) → r ≡ refusal_row x → s ≡ not_sent x → Laid out 0 (no_line r.number) new n → Laid out 0 (sending_lines f m room s) new n
+  pub refused-laid : (x : Refusal) (r : Reply) → r ≡ refusal_row x → s ≡ Err x → Laid out 0 (no_line r.number) new n → Laid out 0 (sending_lines f m room s) new n
   unfolding sending_lines
   refused-laid x r er es laid = rw es (rw er at laid)
 
 pub ruleset answers = (fits-few, fits-within, sent-laid, refused-laid, rules)
 
-pub sending-carries : (f m' room' out new : List ℕ) (s : Sending) (n : ℕ) (x : SendingResult) → x ≡ record { reply = s; memory = m'; room = room' }
+pub sending-carries : (f m' room' out new : List ℕ) (s : Result ℕ Refusal) (n : ℕ) (x : SendingResult) → x ≡ record { reply = s; memory = m'; room = room' }
     → Laid out 0 (sending_lines f m' room' s) new n → Carries (carried_sending f true x) out m' room' new true n
 unfolding carried_sending
 sending-carries f m' room' out new s n x e laid = rw e (record { memory = refl; room = refl; opened = refl; output = laid })

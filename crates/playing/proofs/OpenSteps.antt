@@ -24,7 +24,6 @@ use Rattle.session.specs.declared.Refusal.{Refusal}
 use Rattle.session.specs.declared.Refusal.TheVariants.{MemoryShort, RoomShort, File, BadTempo, BadGrace, NoSession, NoEvent, NotAfter, BadMillis, ClockFull}
 use Rattle.session.specs.Layout.{memory_size, most_tempo, most_grace}
 use Rattle.session.specs.Replies.{refusal_row}
-use Rattle.opening.specs.declared.Opening.{Opening}
 use Rattle.opening.specs.declared.OpeningReply.{OpeningReply}
 use Rattle.opening.specs.Opening.{opening_check, opened}
 use Rattle.opening.specs.Replies.{opening_reply}
@@ -74,7 +73,7 @@ zero-accepted m f o (refused x) p e =
 
 -- ---- what is printed, and the stand after it
 
-module _ (f m m' : List ℕ) (parts tempo grace : ℕ) (a : Opening) (r : OpeningReply) (few : parts ≤ most_parts)
+module _ (f m m' : List ℕ) (parts tempo grace : ℕ) (a : Result ℕ Refusal) (r : OpeningReply) (few : parts ≤ most_parts)
     (told : opened m f (record { parts = parts % 65536; tempo = tempo; grace = grace }) ≡ record { reply = a; memory = m' }) (row : r ≡ opening_reply a) where
   whole : opened m f (record { parts = parts; tempo = tempo; grace = grace }) ≡ record { reply = a; memory = m' }
   whole = let e : parts % 65536 ≡ parts = omega arith in rw e at told

@@ -1,10 +1,9 @@
 -- What carrying out a line asks and leaves.
-use Rattle.std.specs.Prelude.{◌≡◌, ℕ, ◌*◌, ◌≤◌, Bool, true, List, length}
+use Rattle.std.specs.Prelude.{◌≡◌, ℕ, ◌*◌, ◌≤◌, Bool, true, List, length, Result, Ok}
 use Rattle.ascii.specs.Laying.{Laid}
 use Rattle.score.specs.File.{Accepted}
+use Rattle.session.specs.declared.Refusal.{Refusal}
 use Rattle.session.specs.Layout.{most_sent}
-use Rattle.sequencer.specs.declared.Sending.{Sending}
-use Rattle.sequencer.specs.declared.Sending.TheVariants.{Sent}
 use Rattle.playing.specs.Printed.{Carried}
 
 -- A message's line: three numbers of at most 20 digits, three spaces, a label of at most 48 bytes and a newline.
@@ -16,9 +15,9 @@ abbrev pub output_room : ℕ
 output_room = 114688
 
 -- As many messages stand in the send room as a call says that it sent.
-pub record Fits (sent : Sending) (room : List ℕ) : Type 0 where
-  pub few : (c : ℕ) → sent ≡ Sent c → c ≤ most_sent
-  pub within : (c : ℕ) → sent ≡ Sent c → 2 * c ≤ length room
+pub record Fits (sent : Result ℕ Refusal) (room : List ℕ) : Type 0 where
+  pub few : (c : ℕ) → sent ≡ Ok c → c ≤ most_sent
+  pub within : (c : ℕ) → sent ≡ Ok c → 2 * c ≤ length room
 
 -- A session is open only on an accepted file.
 pub record Asked (file : List ℕ) (opened : Bool) (out : List ℕ) : Type 0 where

@@ -1,13 +1,12 @@
 -- "The program `play` reads the file `score.bin` and commands from standard input": what is printed, from the bytes of the one and of the other, and a grace.
-use Rattle.std.specs.Prelude.{ℕ, ◌+◌, ◌/◌, ◌%◌, Bool, false, List, [], ◌∷◌, ◌++◌, eqb}
+use Rattle.std.specs.Prelude.{ℕ, ◌+◌, ◌/◌, ◌%◌, Bool, false, List, [], ◌∷◌, ◌++◌, eqb, Result, Ok, Err}
 use Rattle.score.specs.LookUp.{label_bytes}
+use Rattle.session.specs.declared.Refusal.{Refusal}
 use Rattle.session.specs.Layout.{memory_size, room_size}
 use Rattle.session.specs.Replies.{refusal_row}
 use Rattle.sending.specs.Room.{Message, pairs_in}
 use Rattle.opening.specs.Opening.{zeros, OpeningResult, opened}
 use Rattle.opening.specs.Replies.{opening_reply}
-use Rattle.sequencer.specs.declared.Sending.{Sending}
-use Rattle.sequencer.specs.declared.Sending.TheVariants.{Sent, Refused as not_sent}
 use Rattle.sequencer.specs.declared.Figures.{Figures}
 use Rattle.sequencer.specs.Replies.{report_reply}
 use Rattle.sequencer.specs.Calls.{SendingResult, heard_note, passing_time, reported}
@@ -43,9 +42,9 @@ sent_lines f k [] = []
 sent_lines f k (x ∷ l) = sent_line f k x ++ sent_lines f k l
 
 -- "`no N` for a refused call"
-unfoldable pub sending_lines : (file memory room : List ℕ) → Sending → List ℕ
-sending_lines f m room (Sent c) = sent_lines f (figures_of m).clock (pairs_in c 0 room)
-sending_lines f m room (not_sent x) = no_line (refusal_row x).number
+unfoldable pub sending_lines : (file memory room : List ℕ) → Result ℕ Refusal → List ℕ
+sending_lines f m room (Ok c) = sent_lines f (figures_of m).clock (pairs_in c 0 room)
+sending_lines f m room (Err x) = no_line (refusal_row x).number
 
 -- "`open N parts C` (reply number, sounding parts, 0 if refused)"
 unfoldable pub carried_opening : (room : List ℕ) → OpeningResult → Carried

@@ -9,7 +9,8 @@ ghost use Rattle.playing.specs.Printed.{figures_of, sent_line, sent_lines, sendi
 ghost use Rattle.playing.specs.Inner.{message_room, output_room, Fits, Carries};
 
 use crate::Line;
-use sequencer::{Figures, Sending};
+use sequencer::Figures;
+use session::Refusal;
 
 // What the report gives: every figure is 0 where there is no session.
 pub fn figures_of(mem: &[u64]) -> Figures
@@ -44,16 +45,22 @@ fn put_messages(file: &[u8], clock: u64, room: &[u64], count: usize, out: &mut [
 }
 
 // What a call answered, with memory and room as it left them.
-fn put_sent(file: &[u8], mem: &[u64], room: &[u64], sent: Sending, out: &mut [u8]) -> usize
+fn put_sent(
+    file: &[u8],
+    mem: &[u64],
+    room: &[u64],
+    sent: Result<usize, Refusal>,
+    out: &mut [u8],
+) -> usize
     requires { Accepted file.now × Fits sent room.now × (output_room ≤ length out.old) }
     ensures { Laid out.old 0 (sending_lines file.now mem.now room.now sent) out.new result }
 {
     match sent {
-        Sending::Sent(count) => {
+        Ok(count) => {
             let s = figures_of(mem);
             put_messages(file, s.clock, room, count, out)
         }
-        Sending::Refused(x) => {
+        Err(x) => {
             let r = session::refusal_row(x);
             lines::no_line(out, r.number as u64)
         }

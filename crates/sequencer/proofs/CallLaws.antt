@@ -8,6 +8,7 @@ use native.Mathlib.Omega.{arith}
 use lib.ListN.{length, set}
 use mir.Syntax.{w64}
 use mir.Val.{Fits}
+use Rattle.std.specs.Prelude.{Ok, Err}
 use Rattle.base.specs.Checks.{fine, refused}
 use Rattle.base.proofs.TestLaws.{told-true}
 use Rattle.base.proofs.CheckLaws.{checks}
@@ -21,7 +22,6 @@ use Rattle.session.specs.Inner.{Header}
 use Rattle.session.proofs.SessionRule.{session-header}
 use Rattle.session.proofs.Kept.{kept_word}
 use Rattle.sending.specs.Inner.{SentAll}
-use Rattle.sequencer.specs.declared.Sending.TheVariants.{Sent, Refused as not_sent}
 use Rattle.sequencer.specs.Calls.{headed, noted, clock_after, SendingResult, sent_now, if_fine, heard_check, heard_note, pass_check, passing_time}
 use Rattle.sequencer.proofs.NoteLaws.{noted-kept, noted-header}
 
@@ -48,14 +48,14 @@ module _ (m : List ℕ) (b : Bool) (r : b ≡ is_session m) (t : not b ≡ false
 
 pub finished-by : (m room m₁ room₁ : List ℕ) (clock tempo last c : ℕ) → SentAll clock m room c m₁ room₁
     → sent_now clock tempo last m room
-    ≡ record { reply = Sent c; memory = set (set (set (set m₁ clock_at clock) tempo_at tempo) last_at last) total_at (word_at m total_at + c); room = room₁ }
+    ≡ record { reply = Ok c; memory = set (set (set (set m₁ clock_at clock) tempo_at tempo) last_at last) total_at (word_at m total_at + c); room = room₁ }
 unfolding sent_now headed
 finished-by m room m₁ room₁ clock tempo last c s = rw (s.memory, s.count, s.sent)
 
 -- ---- passing time
 
 module _ (m room : List ℕ) (ms : ℕ) where
-  pub pass-refused : (x : Refusal) → refused x ≡ pass_check m room ms → passing_time m room ms ≡ record { reply = not_sent x; memory = m; room = room }
+  pub pass-refused : (x : Refusal) → refused x ≡ pass_check m room ms → passing_time m room ms ≡ record { reply = Err x; memory = m; room = room }
   unfolding passing_time if_fine
   pass-refused x e = rw (← e)
 
@@ -65,7 +65,7 @@ module _ (m room : List ℕ) (ms : ℕ) where
     unfolding clock_after
     after = rw by
 
-    pub pass-full : clock_end < word_at m clock_at + moved.0 → passing_time m room ms ≡ record { reply = not_sent ClockFull; memory = m; room = room }
+    pub pass-full : clock_end < word_at m clock_at + moved.0 → passing_time m room ms ≡ record { reply = Err ClockFull; memory = m; room = room }
     unfolding pass_check
     pass-full h =
         let h' : clock_end < clock_after m ms = rw after at h in
@@ -82,7 +82,7 @@ module _ (m room : List ℕ) (ms : ℕ) where
 -- ---- heard note
 
 module _ (m room : List ℕ) (event tempo : ℕ) where
-  pub heard-refused : (x : Refusal) → refused x ≡ heard_check m room event tempo → heard_note m room event tempo ≡ record { reply = not_sent x; memory = m; room = room }
+  pub heard-refused : (x : Refusal) → refused x ≡ heard_check m room event tempo → heard_note m room event tempo ≡ record { reply = Err x; memory = m; room = room }
   unfolding heard_note if_fine
   heard-refused x e = rw (← e)
 

@@ -7,6 +7,7 @@ use Prim.Native.Nat.{ℕ, ◌+◌, ◌*◌, ◌≤◌, ◌<◌}
 use native.Mathlib.Nat.{one-le-mul}
 use native.Mathlib.Omega.{arith}
 use lib.ListN.{length, drop}
+use Rattle.std.specs.Prelude.{Ok, Err}
 use Rattle.base.specs.Checks.{Check, fine, refused}
 use Rattle.session.specs.declared.Refusal.{Refusal}
 use Rattle.session.specs.Layout.{memory_size, room_size, most_sent, most_tempo, clock_end, mark_at, event_count_at, item_count_at, clock_at, tempo_at, last_at, total_at, taken_at, word_at}
@@ -17,7 +18,6 @@ use Rattle.session.proofs.Kept.{Kept, kept-none, kept_then, kept-wider, kept_wor
 use Rattle.sending.specs.Sending.{sent_at, fired_at}
 use Rattle.sending.proofs.KeptLaws.{fired-kept}
 use Rattle.sending.proofs.SentLaws.{sent-few, filled-length, filled-past}
-use Rattle.sequencer.specs.declared.Sending.TheVariants.{Sent, Refused as not_sent}
 use Rattle.sequencer.specs.Calls.{noted, headed, clock_after, SendingResult, sent_now, if_fine, heard_check, heard_note, pass_check, passing_time}
 use Rattle.sequencer.proofs.HeadedLaws.{headed-kept, headed-header}
 use Rattle.sequencer.proofs.NoteLaws.{header-kept, noted-kept, noted-header}
@@ -29,10 +29,10 @@ pub record Keeps (m room : List ℕ) (s : SendingResult) : Type 0 where
   -- "Words past 8,192 are never read or changed": the same words stand there, and as many of them.
   pub words : Kept mark_at memory_size m s.memory
   -- "The first 2c words of the send room then hold [..]; the rest is unchanged."
-  pub after : (c : ℕ) → s.reply ≡ Sent c → drop (2 * c) s.room ≡ drop (2 * c) room
+  pub after : (c : ℕ) → s.reply ≡ Ok c → drop (2 * c) s.room ≡ drop (2 * c) room
   pub room_long : length s.room ≡ length room
 
-refused-keeps : (m room : List ℕ) (x : Refusal) → Keeps m room (record { reply = not_sent x; memory = m; room = room })
+refused-keeps : (m room : List ℕ) (x : Refusal) → Keeps m room (record { reply = Err x; memory = m; room = room })
 refused-keeps m room x = record { session = λ e. e; words = kept-none mark_at memory_size m; after = λ c e. refl; room_long = refl }
 
 -- ---- a granted call: m₁ are the words of m after the note was taken, and the clock or the last event has moved on

@@ -1,5 +1,5 @@
 -- Heard note, passing time and report, on all words. "A refusal sends nothing and changes no lent word."
-use Rattle.std.specs.Prelude.{ℕ, zero, suc, ◌+◌, ◌-◌, List, [], ◌∷◌, leb, ltb, length, set}
+use Rattle.std.specs.Prelude.{ℕ, zero, suc, ◌+◌, ◌-◌, List, [], ◌∷◌, leb, ltb, length, set, Result, Ok, Err}
 use Rattle.base.specs.Tests.{between}
 use Rattle.base.specs.Checks.{Check, fine, refused, need, first_fault}
 use Rattle.units.specs.Units.{moved_by}
@@ -10,11 +10,7 @@ use Rattle.session.specs.Layout.{memory_size, room_size, most_tempo, most_millis
 use Rattle.session.specs.Session.{is_session}
 use Rattle.sending.specs.Room.{filled}
 use Rattle.sending.specs.Sending.{settled, sent_at, fired_at}
-use Rattle.sequencer.specs.declared.Sending.{Sending}
-use Rattle.sequencer.specs.declared.Sending.TheVariants.{Sent, Refused as not_sent}
 use Rattle.sequencer.specs.declared.Figures.{Figures}
-use Rattle.sequencer.specs.declared.Report.{Report}
-use Rattle.sequencer.specs.declared.Report.TheVariants.{Given, Refused as not_reported}
 
 -- ---- the order of checks
 
@@ -70,7 +66,7 @@ headed clock tempo last total m = set (set (set (set m clock_at clock) tempo_at 
 
 -- What a heard note or passing time comes to: its reply, and the session memory and the send room after it.
 pub record SendingResult : Type 0 where
-  pub reply : Sending
+  pub reply : Result ℕ Refusal
   pub memory : List ℕ
   pub room : List ℕ
 
@@ -78,12 +74,12 @@ pub record SendingResult : Type 0 where
 unfoldable pub sent_now : (clock tempo last : ℕ) → (memory room : List ℕ) → SendingResult
 sent_now clock tempo last m room =
     let l = sent_at clock m in
-    record { reply = Sent (length l); memory = headed clock tempo last (word_at m total_at + length l) (fired_at clock m); room = filled l room }
+    record { reply = Ok (length l); memory = headed clock tempo last (word_at m total_at + length l) (fired_at clock m); room = filled l room }
 
 -- By one look at its check: the granted call, or memory and room as they came.
 unfoldable pub if_fine : Check Refusal → SendingResult → (memory room : List ℕ) → SendingResult
 if_fine fine granted m room = granted
-if_fine (refused x) granted m room = record { reply = not_sent x; memory = m; room = room }
+if_fine (refused x) granted m room = record { reply = Err x; memory = m; room = room }
 
 -- ---- the calls
 
@@ -93,9 +89,9 @@ heard_note m room h tempo = if_fine (heard_check m room h tempo) (sent_now (word
 unfoldable pub passing_time : (memory room : List ℕ) → (ms : ℕ) → SendingResult
 passing_time m room ms = if_fine (pass_check m room ms) (sent_now (clock_after m ms) (word_at m tempo_at) (word_at m last_at) m room) m room
 
-unfoldable pub if_known : Check Refusal → Figures → Report
-if_known fine s = Given s
-if_known (refused x) s = not_reported x
+unfoldable pub if_known : Check Refusal → Figures → Result Figures Refusal
+if_known fine s = Ok s
+if_known (refused x) s = Err x
 
-unfoldable pub reported : List ℕ → Report
+unfoldable pub reported : List ℕ → Result Figures Refusal
 reported m = if_known (report_check m) (record { clock = word_at m clock_at; tempo = word_at m tempo_at; last = word_at m last_at; total = word_at m total_at })

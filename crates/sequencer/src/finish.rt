@@ -1,8 +1,7 @@
 // The end of a call that was granted: what is due is sent, and the header says what holds.
-ghost use Rattle.std.specs.Prelude.{◌≡◌, ◌≤◌, length};
+ghost use Rattle.std.specs.Prelude.{◌≡◌, ◌≤◌, length, Ok};
 ghost use Rattle.session.specs.Layout.{memory_size, room_size, clock_end};
 ghost use Rattle.session.specs.Inner.{Header};
-ghost use Rattle.sequencer.specs.declared.Sending.TheVariants.{Sent};
 ghost use Rattle.sequencer.specs.Calls.{sent_now};
 
 use session::layout::{CLOCK_AT, LAST_AT, TEMPO_AT, TOTAL_AT};
@@ -11,7 +10,7 @@ use units::Thousandths;
 // All that is due is sent: how many messages.
 pub fn finish(mem: &mut [u64], room: &mut [u64], clock: Thousandths, tempo: u64, last: u64) -> usize
     requires { (memory_size ≤ length mem.old) × Header mem.old × (room_size ≤ length room.old) × (clock.0 ≤ clock_end) }
-    ensures { sent_now clock.0 tempo last mem.old room.old ≡ record { reply = Sent result; memory = mem.new; room = room.new } }
+    ensures { sent_now clock.0 tempo last mem.old room.old ≡ record { reply = Ok result; memory = mem.new; room = room.new } }
 {
     let total = mem[TOTAL_AT];
     let count = sending::due::send(mem, room, clock);

@@ -4,7 +4,6 @@ ghost use Rattle.session.specs.Layout.{memory_size, event_count_at, last_at, pla
 ghost use Rattle.session.specs.Inner.{Header};
 ghost use Rattle.sequencer.specs.Calls.{took_note, noted, heard_note};
 
-use crate::Sending;
 use crate::finish::finish;
 use fates::Places;
 use session::layout::{
@@ -56,36 +55,36 @@ fn note(mem: &mut [u64], event: usize)
     sending::slots::settle(mem, clock, count);
 }
 
-// A note is heard: an event, and the tempo from here on.
-pub fn hear(mem: &mut [u64], room: &mut [u64], event: u64, tempo: u64) -> Sending
+// A note is heard: an event, and the tempo from here on. It answers how many messages were sent.
+pub fn hear(mem: &mut [u64], room: &mut [u64], event: u64, tempo: u64) -> Result<usize, Refusal>
     ensures { heard_note mem.old room.old event tempo ≡ record { reply = result; memory = mem.new; room = room.new } }
 {
     if mem.len() < MEMORY_SIZE {
-        return Sending::Refused(Refusal::MemoryShort);
+        return Err(Refusal::MemoryShort);
     }
     let known = is_session(mem);
     if room.len() < ROOM_SIZE {
-        return Sending::Refused(Refusal::RoomShort);
+        return Err(Refusal::RoomShort);
     }
     if !known {
-        return Sending::Refused(Refusal::NoSession);
+        return Err(Refusal::NoSession);
     }
     if event < 1 {
-        return Sending::Refused(Refusal::NoEvent);
+        return Err(Refusal::NoEvent);
     }
     if mem[EVENT_COUNT_AT] < event {
-        return Sending::Refused(Refusal::NoEvent);
+        return Err(Refusal::NoEvent);
     }
     if event <= mem[LAST_AT] {
-        return Sending::Refused(Refusal::NotAfter);
+        return Err(Refusal::NotAfter);
     }
     if tempo < 1 {
-        return Sending::Refused(Refusal::BadTempo);
+        return Err(Refusal::BadTempo);
     }
     if MOST_TEMPO < tempo {
-        return Sending::Refused(Refusal::BadTempo);
+        return Err(Refusal::BadTempo);
     }
     note(mem, event as usize);
     let clock = Thousandths(mem[CLOCK_AT]);
-    Sending::Sent(finish(mem, room, clock, tempo, event))
+    Ok(finish(mem, room, clock, tempo, event))
 }

@@ -1,8 +1,6 @@
 // The calls of an opened session: it is told of heard notes and of passing time, and asked for a report. All of it lives in 8,192 lent words.
 #![tactic(auto)]
 
-use session::Refusal;
-
 mod finish;
 mod heard;
 mod passing;
@@ -13,20 +11,6 @@ pub use heard::hear;
 pub use passing::pass;
 pub use replies::{report_reply, sending_reply};
 pub use reporting::read_report;
-
-// A heard note or passing time: how many messages were sent.
-#[derive(Clone, Copy)]
-pub enum Sending {
-    Sent(usize),
-    Refused(Refusal),
-}
-
-// A report.
-#[derive(Clone, Copy)]
-pub enum Report {
-    Given(Figures),
-    Refused(Refusal),
-}
 
 // "The report gives clock, tempo, last event heard (0 before the first) and messages sent since the opening."
 #[derive(Clone, Copy)]

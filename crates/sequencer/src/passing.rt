@@ -2,7 +2,6 @@
 ghost use Rattle.std.specs.Prelude.{◌≡◌};
 ghost use Rattle.sequencer.specs.Calls.{passing_time};
 
-use crate::Sending;
 use crate::finish::finish;
 use session::layout::{
     CLOCK_AT, CLOCK_END, LAST_AT, MEMORY_SIZE, MOST_MILLIS, ROOM_SIZE, TEMPO_AT,
@@ -10,31 +9,31 @@ use session::layout::{
 use session::{Refusal, is_session};
 use units::{Millis, Thousandths};
 
-// Milliseconds pass.
-pub fn pass(mem: &mut [u64], room: &mut [u64], ms: u64) -> Sending
+// Milliseconds pass. It answers how many messages were sent.
+pub fn pass(mem: &mut [u64], room: &mut [u64], ms: u64) -> Result<usize, Refusal>
     ensures { passing_time mem.old room.old ms ≡ record { reply = result; memory = mem.new; room = room.new } }
 {
     if mem.len() < MEMORY_SIZE {
-        return Sending::Refused(Refusal::MemoryShort);
+        return Err(Refusal::MemoryShort);
     }
     let known = is_session(mem);
     if room.len() < ROOM_SIZE {
-        return Sending::Refused(Refusal::RoomShort);
+        return Err(Refusal::RoomShort);
     }
     if !known {
-        return Sending::Refused(Refusal::NoSession);
+        return Err(Refusal::NoSession);
     }
     if ms < 1 {
-        return Sending::Refused(Refusal::BadMillis);
+        return Err(Refusal::BadMillis);
     }
     if MOST_MILLIS < ms {
-        return Sending::Refused(Refusal::BadMillis);
+        return Err(Refusal::BadMillis);
     }
     let tempo = mem[TEMPO_AT];
     let last = mem[LAST_AT];
     let clock = mem[CLOCK_AT] + units::moved_by(Millis(ms), tempo).0;
     if CLOCK_END < clock {
-        return Sending::Refused(Refusal::ClockFull);
+        return Err(Refusal::ClockFull);
     }
-    Sending::Sent(finish(mem, room, Thousandths(clock), tempo, last))
+    Ok(finish(mem, room, Thousandths(clock), tempo, last))
 }

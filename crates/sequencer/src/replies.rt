@@ -2,20 +2,20 @@
 ghost use Rattle.std.specs.Prelude.{◌≡◌};
 ghost use Rattle.sequencer.specs.Replies.{sending_reply, report_reply};
 
-use crate::{Figures, Report, ReportReply, Sending, SendingReply};
-use session::refusal_row;
+use crate::{Figures, ReportReply, SendingReply};
+use session::{Refusal, refusal_row};
 
 // The reply to a heard note or to passing time: the count sent.
-pub fn sending_reply(s: Sending) -> SendingReply
+pub fn sending_reply(s: Result<usize, Refusal>) -> SendingReply
     ensures { result ≡ sending_reply s }
 {
     match s {
-        Sending::Sent(c) => SendingReply {
+        Ok(c) => SendingReply {
             number: 0,
             place: 0,
             count: c,
         },
-        Sending::Refused(x) => {
+        Err(x) => {
             let r = refusal_row(x);
             SendingReply {
                 number: r.number,
@@ -27,16 +27,16 @@ pub fn sending_reply(s: Sending) -> SendingReply
 }
 
 // The reply to a report: clock, tempo, last event heard and messages sent.
-pub fn report_reply(a: Report) -> ReportReply
+pub fn report_reply(a: Result<Figures, Refusal>) -> ReportReply
     ensures { result ≡ report_reply a }
 {
     match a {
-        Report::Given(s) => ReportReply {
+        Ok(s) => ReportReply {
             number: 0,
             place: 0,
             figures: s,
         },
-        Report::Refused(x) => {
+        Err(x) => {
             let r = refusal_row(x);
             ReportReply {
                 number: r.number,

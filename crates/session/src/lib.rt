@@ -1,6 +1,9 @@
 // A session's words: where each stands, when memory is a session, and why a call is refused.
 #![tactic(auto)]
 
+ghost use Rattle.std.specs.Prelude.{◌≡◌};
+ghost use Rattle.session.specs.declared.Refusal.TheVariants.{File};
+
 use contents::Fault;
 
 // The places are public for programs that forge or inspect memory; a caller of the sequencer needs none of them.
@@ -34,4 +37,13 @@ pub enum Refusal {
     BadMillis,
     // "the clock would pass 10^15"
     ClockFull,
+}
+
+// A call that checks a file passes on what that check refuses.
+impl From<Fault> for Refusal {
+    ghost from_gives = { λ f x. x ≡ File f };
+
+    fn from(f: Fault) -> Refusal {
+        Refusal::File(f)
+    }
 }

@@ -7,6 +7,7 @@ use Prim.Native.Nat.{ℕ, ◌≤◌}
 use native.Mathlib.Omega.{arith}
 use lib.Dec.{eqb}
 use borrow.Author.Tests.{ne_eqb}
+use Rattle.std.specs.Prelude.{Result, Ok, Err}
 use Rattle.base.specs.Tests.{pick}
 use Rattle.base.proofs.TestLaws.{every-head, between-high}
 use Rattle.ascii.specs.Words.{begins, space, zero_digit, nine_digit}
@@ -22,11 +23,7 @@ use Rattle.session.specs.declared.Refusal.{Refusal}
 use Rattle.session.specs.declared.Refusal.TheVariants.{MemoryShort, RoomShort, File, BadTempo, BadGrace, NoSession, NoEvent, NotAfter, BadMillis, ClockFull}
 use Rattle.session.specs.Replies.{refusal_row}
 use Rattle.sending.specs.Room.{Message}
-use Rattle.opening.specs.declared.Opening.{Opening}
-use Rattle.opening.specs.declared.Opening.TheVariants.{Opened, Refused as not_opened}
 use Rattle.opening.specs.Replies.{opening_reply}
-use Rattle.sequencer.specs.declared.Sending.{Sending}
-use Rattle.sequencer.specs.declared.Sending.TheVariants.{Sent, Refused as not_sent}
 use Rattle.lines.specs.declared.Command.{Command}
 use Rattle.lines.specs.declared.Command.TheVariants.{Open, Hear, Pass, Bad}
 use Rattle.lines.specs.Output.{word_line, words_line, open_line, figure, message_line}
@@ -73,10 +70,10 @@ number-told NotAfter c = refl
 number-told BadMillis c = refl
 number-told ClockFull c = refl
 
-opening-told : (y : Opening) → tells_refusal (open_line (opening_reply y).number (opening_reply y).parts) ≡ not (eqb (opening_reply y).number 0)
+opening-told : (y : Result ℕ Refusal) → tells_refusal (open_line (opening_reply y).number (opening_reply y).parts) ≡ not (eqb (opening_reply y).number 0)
 unfolding tells_refusal begins pick word_line words_line decimal digits_of opening_reply
-opening-told (Opened n) = refl
-opening-told (not_opened x) = rw (number-told x 0, refusal-numbered x)
+opening-told (Ok n) = refl
+opening-told (Err x) = rw (number-told x 0, refusal-numbered x)
 
 -- It tells of the grace exactly where the number is the grace's.
 rule-graceless : (r : ItemRule) (c : ℕ) → tells_grace (open_line (rule_row r).number c) ≡ eqb (rule_row r).number 19
@@ -132,10 +129,10 @@ unfolding sent_lines sent_line message_line figure tells_refusal begins pick
 sent-silent f k [] = refl
 sent-silent f k (x ∷ l) = number-silent (decimal k) _ _ (decimal-digits k)
 
-sending-silent : (f m room : List ℕ) (y : Sending) → tells_refusal (sending_lines f m room y) ≡ false
+sending-silent : (f m room : List ℕ) (y : Result ℕ Refusal) → tells_refusal (sending_lines f m room y) ≡ false
 unfolding sending_lines tells_refusal begins pick word_line
-sending-silent f m room (Sent c) = sent-silent f _ _
-sending-silent f m room (not_sent x) = refl
+sending-silent f m room (Ok c) = sent-silent f _ _
+sending-silent f m room (Err x) = refl
 
 -- ---- every line
 

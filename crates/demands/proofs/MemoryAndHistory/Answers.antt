@@ -7,6 +7,7 @@ use mathlib.Core.List.{List}
 use native.Mathlib.Omega.{arith}
 use lib.ListN.{length}
 use borrow.Author.Tests.{le-leb}
+use Rattle.std.specs.Prelude.{Ok}
 use Rattle.base.specs.Checks.{Check, fine, refused, need, first_fault}
 use Rattle.score.specs.Piece.{decode}
 use Rattle.score.specs.File.{Accepted}
@@ -15,7 +16,6 @@ use Rattle.session.specs.declared.Refusal.{Refusal}
 use Rattle.session.specs.Layout.{memory_size}
 use Rattle.session.specs.Parts.{sounds}
 use Rattle.session.specs.Session.{is_session}
-use Rattle.sequencer.specs.declared.Report.TheVariants.{Given}
 use Rattle.sequencer.specs.Replies.{sending_reply}
 use Rattle.sequencer.specs.Calls.{SendingResult, if_fine, heard_note, passing_time, report_check, if_known, reported}
 use Rattle.sequencer.proofs.CallsKeep.{heard-keeps, pass-keeps}
@@ -51,7 +51,7 @@ module _ (f : List ℕ) (accepted : Accepted f) (o : Terms) (total : ℕ) (s : N
 
   -- ---- report
 
-  report-answer : reported m ≡ Given (record { clock = s.clock; tempo = s.tempo; last = s.last; total = total })
+  report-answer : reported m ≡ Ok (record { clock = s.clock; tempo = s.tempo; last = s.last; total = total })
   unfolding reported if_known report_check first_fault need
   report-answer = rw (le-leb memory_size (length m) holds.score.long, holds.session, holds.clock, holds.tempo, holds.last, holds.sent)
 

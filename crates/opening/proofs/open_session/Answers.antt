@@ -1,5 +1,6 @@
 -- Each way through the checks has its reply and leaves its words.
 -- Assumes nothing.
+use Rattle.std.proofs.lemmas.Result.{err_from_is_err_and}
 use Rattle.opening.specs.Opening.{opening_check}
 use Rattle.opening.proofs.OpeningSteps.{openings}
 use borrow.Author.Rules.{rules}
@@ -9,31 +10,27 @@ pub returns-then-mem-lt-MEMORY_SIZE : goal.returns-then-mem-lt-MEMORY_SIZE
 unfolding opening_check
 returns-then-mem-lt-MEMORY_SIZE c = search openings
 
-pub check_file-v-requires : goal.check_file-v-requires
-check_file-v-requires c = search rules
-
-pub returns-in-Err : goal.returns-in-Err
+pub returns-in_err-check_file : goal.returns-in_err-check_file
 unfolding opening_check
-returns-in-Err c = search openings
+returns-in_err-check_file c =
+    let p = err_from_is_err_and c.from_residual.result c.from_residual.ensures.1 in
+    rw p.1 (search (openings, p.2, c.in_err-check_file.was))
 
 pub returns-then-tempo-lt1 : goal.returns-then-tempo-lt1
 unfolding opening_check
-returns-then-tempo-lt1 c = search openings
+returns-then-tempo-lt1 c = search (openings, c.in_ok-check_file.was)
 
 pub returns-then-tempo-gt-MOST_TEMPO : goal.returns-then-tempo-gt-MOST_TEMPO
 unfolding opening_check
-returns-then-tempo-gt-MOST_TEMPO c = search openings
+returns-then-tempo-gt-MOST_TEMPO c = search (openings, c.in_ok-check_file.was)
 
 pub returns-then-grace-gt-MOST_GRACE : goal.returns-then-grace-gt-MOST_GRACE
 unfolding opening_check
-returns-then-grace-gt-MOST_GRACE c = search openings
+returns-then-grace-gt-MOST_GRACE c = search (openings, c.in_ok-check_file.was)
 
 pub begin-requires : goal.begin-requires
-begin-requires c = search openings
-
-pub shape_of-mem : goal.shape_of-mem
-shape_of-mem c = search rules
+begin-requires c = search (openings, c.in_ok-check_file.was)
 
 pub returns : goal.returns
 unfolding opening_check
-returns c = search openings depth 7
+returns c = search (openings, c.in_ok-check_file.was) depth 7

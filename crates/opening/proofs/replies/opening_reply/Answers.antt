@@ -7,16 +7,16 @@ use Rattle.opening.proofs.replies.opening_reply.Goals as goal
 pub enum_known-o : goal.enum_known-o
 enum_known-o c = search rules
 
-pub enum_known-o-in-Refused-1 : goal.enum_known-o-in-Refused-1
-enum_known-o-in-Refused-1 c = search rules
+pub enum_known-o-in-Err-1 : goal.enum_known-o-in-Err-1
+enum_known-o-in-Err-1 c = search rules
 
 pub refusal_row-r-requires : goal.refusal_row-r-requires
 refusal_row-r-requires c = search rules
 
-pub returns-in-Opened : goal.returns-in-Opened
+pub returns-in-Ok : goal.returns-in-Ok
 unfolding opening_reply
-returns-in-Opened c = cc
+returns-in-Ok c = cc
 
-pub returns-in-Refused : goal.returns-in-Refused
+pub returns-in-Err : goal.returns-in-Err
 unfolding opening_reply
-returns-in-Refused c = cc
+returns-in-Err c = cc

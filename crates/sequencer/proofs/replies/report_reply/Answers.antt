@@ -2,21 +2,20 @@
 -- Assumes nothing.
 use mathlib.Core.Path.{◌≡◌}
 use borrow.Author.Rules.{rules}
+use Rattle.std.specs.Prelude.{Result, Ok, Err}
 use Rattle.contents.specs.declared.Reply.{Reply}
 use Rattle.session.specs.declared.Refusal.{Refusal}
 use Rattle.session.specs.Replies.{refusal_row}
 use Rattle.sequencer.specs.declared.Figures.{Figures}
-use Rattle.sequencer.specs.declared.Report.{Report}
-use Rattle.sequencer.specs.declared.Report.TheVariants.{Given, Refused}
 use Rattle.sequencer.specs.declared.ReportReply.{ReportReply}
 use Rattle.sequencer.specs.Replies.{report_reply}
 use Rattle.sequencer.proofs.replies.report_reply.Goals as goal
 
-given-row : (a : Report) (s : Figures) → a ≡ Given s → ◌≡◌ {A = ReportReply} (record { number = 0; place = 0; figures = s }) (report_reply a)
+given-row : (a : Result Figures Refusal) (s : Figures) → a ≡ Ok s → ◌≡◌ {A = ReportReply} (record { number = 0; place = 0; figures = s }) (report_reply a)
 unfolding report_reply
 given-row a s e = rw e
 
-refused-row : (a : Report) (x : Refusal) (r : Reply) → a ≡ Refused x → r ≡ refusal_row x
+refused-row : (a : Result Figures Refusal) (x : Refusal) (r : Reply) → a ≡ Err x → r ≡ refusal_row x
     → ◌≡◌ {A = ReportReply} (record { number = r.number; place = r.place; figures = record { clock = 0; tempo = 0; last = 0; total = 0 } }) (report_reply a)
 unfolding report_reply
 refused-row a x r e q = rw (e, q)
@@ -24,14 +23,14 @@ refused-row a x r e q = rw (e, q)
 pub enum_known-a : goal.enum_known-a
 enum_known-a c = search rules
 
-pub enum_known-a-in-Refused-1 : goal.enum_known-a-in-Refused-1
-enum_known-a-in-Refused-1 c = search rules
+pub enum_known-a-in-Err-1 : goal.enum_known-a-in-Err-1
+enum_known-a-in-Err-1 c = search rules
 
 pub refusal_row-r-requires : goal.refusal_row-r-requires
 refusal_row-r-requires c = search rules
 
-pub returns-in-Given : goal.returns-in-Given
-returns-in-Given c = search (given-row, rules)
+pub returns-in-Ok : goal.returns-in-Ok
+returns-in-Ok c = search (given-row, rules)
 
-pub returns-in-Refused : goal.returns-in-Refused
-returns-in-Refused c = search (refused-row, rules)
+pub returns-in-Err : goal.returns-in-Err
+returns-in-Err c = search (refused-row, rules)

@@ -3,20 +3,19 @@
 use mathlib.Core.Path.{◌≡◌}
 use Prim.Native.Nat.{ℕ}
 use borrow.Author.Rules.{rules}
+use Rattle.std.specs.Prelude.{Result, Ok, Err}
 use Rattle.contents.specs.declared.Reply.{Reply}
 use Rattle.session.specs.declared.Refusal.{Refusal}
 use Rattle.session.specs.Replies.{refusal_row}
-use Rattle.sequencer.specs.declared.Sending.{Sending}
-use Rattle.sequencer.specs.declared.Sending.TheVariants.{Sent, Refused}
 use Rattle.sequencer.specs.declared.SendingReply.{SendingReply}
 use Rattle.sequencer.specs.Replies.{sending_reply}
 use Rattle.sequencer.proofs.replies.sending_reply.Goals as goal
 
-sent-row : (a : Sending) (n : ℕ) → a ≡ Sent n → ◌≡◌ {A = SendingReply} (record { number = 0; place = 0; count = n }) (sending_reply a)
+sent-row : (a : Result ℕ Refusal) (n : ℕ) → a ≡ Ok n → ◌≡◌ {A = SendingReply} (record { number = 0; place = 0; count = n }) (sending_reply a)
 unfolding sending_reply
 sent-row a n e = rw e
 
-refused-row : (a : Sending) (x : Refusal) (r : Reply) → a ≡ Refused x → r ≡ refusal_row x
+refused-row : (a : Result ℕ Refusal) (x : Refusal) (r : Reply) → a ≡ Err x → r ≡ refusal_row x
     → ◌≡◌ {A = SendingReply} (record { number = r.number; place = r.place; count = 0 }) (sending_reply a)
 unfolding sending_reply
 refused-row a x r e q = rw (e, q)
@@ -24,14 +23,14 @@ refused-row a x r e q = rw (e, q)
 pub enum_known-s : goal.enum_known-s
 enum_known-s c = search rules
 
-pub enum_known-s-in-Refused-1 : goal.enum_known-s-in-Refused-1
-enum_known-s-in-Refused-1 c = search rules
+pub enum_known-s-in-Err-1 : goal.enum_known-s-in-Err-1
+enum_known-s-in-Err-1 c = search rules
 
 pub refusal_row-r-requires : goal.refusal_row-r-requires
 refusal_row-r-requires c = search rules
 
-pub returns-in-Sent : goal.returns-in-Sent
-returns-in-Sent c = search (sent-row, rules)
+pub returns-in-Ok : goal.returns-in-Ok
+returns-in-Ok c = search (sent-row, rules)
 
-pub returns-in-Refused : goal.returns-in-Refused
-returns-in-Refused c = search (refused-row, rules)
+pub returns-in-Err : goal.returns-in-Err
+returns-in-Err c = search (refused-row, rules)

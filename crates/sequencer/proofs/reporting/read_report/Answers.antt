@@ -3,8 +3,8 @@
 use mathlib.Core.Path.{◌≡◌}
 use Prim.Native.Nat.{ℕ}
 use mathlib.Core.List.{List}
+use Rattle.std.specs.Prelude.{Ok, Err}
 use Rattle.session.specs.declared.Refusal.{Refusal}
-use Rattle.sequencer.specs.declared.Report.TheVariants.{Given, Refused}
 use Rattle.session.specs.Layout.{clock_at, tempo_at, last_at, total_at, word_at}
 use Rattle.base.specs.Checks.{fine, refused}
 use Rattle.sequencer.specs.Calls.{report_check, if_known, reported}
@@ -13,11 +13,11 @@ use borrow.Author.Rules.{rules}
 use Rattle.sequencer.proofs.reporting.read_report.Goals as goal
 
 report-granted : (m : List ℕ) → fine ≡ report_check m
-    → Given (record { clock = word_at m clock_at; tempo = word_at m tempo_at; last = word_at m last_at; total = word_at m total_at }) ≡ reported m
+    → Ok (record { clock = word_at m clock_at; tempo = word_at m tempo_at; last = word_at m last_at; total = word_at m total_at }) ≡ reported m
 unfolding reported if_known
 report-granted m e = rw (← e)
 
-report-refused : (m : List ℕ) (x : Refusal) → refused x ≡ report_check m → Refused x ≡ reported m
+report-refused : (m : List ℕ) (x : Refusal) → refused x ≡ report_check m → Err x ≡ reported m
 unfolding reported if_known
 report-refused m x e = rw (← e)
 
