@@ -3,6 +3,7 @@
 use mathlib.Core.Path.{◌≡◌, refl}
 use mathlib.Core.List.{List, [], ◌∷◌}
 use Prim.Native.Nat.{ℕ}
+use Rattle.std.specs.Prelude.{Err}
 use Rattle.base.specs.Tests.{pick}
 use Rattle.ascii.specs.Decimals.{digits_of, decimal}
 use Rattle.ascii.specs.Text.{bytes_of}
@@ -20,7 +21,7 @@ use Rattle.contents.specs.Entries.{entry_at}
 use Rattle.refusals.specs.Entries.{entry_of, field_words, is_entry, name_words, entry_words, rule_field, fault_field, refusal_field, named_words}
 use Rattle.refusals.specs.Line.{at_byte, place_words, where_words, refusal_line}
 use Rattle.extended.specs.Layout.{extent_of}
-use Rattle.unfolding.specs.declared.Unfolding.TheVariants.{BadExtended, OverLimit}
+use Rattle.unfolding.specs.declared.UnfoldError.TheVariants.{BadExtended, OverLimit}
 use Rattle.unfolding.specs.Replies.{unfold_row}
 use Rattle.refusals.specs.Unfolds.{folded_entry, folded_place, folded_where, folded_end, folded_line}
 
@@ -125,14 +126,14 @@ folded =
     ∷ 92 ∷ 0 ∷ 0 ∷ 0 ∷ 0 ∷ 0 ∷ 0 ∷ 0
     ∷ []
 
-pub bad-folded : folded_line (bytes_of "loops.ext") folded (BadExtended 72) ≡ bytes_of "loops.ext: refused 17 at byte 72, item 1: an item that can't be unfolded\n"
+pub bad-folded : folded_line (bytes_of "loops.ext") folded (Err (BadExtended 72)) ≡ bytes_of "loops.ext: refused 17 at byte 72, item 1: an item that can't be unfolded\n"
 unfolding folded pick digits_of decimal u16_at u32_at extent_of unfold_row extended_words unfolding_words is_entry name_words entry_words at_byte folded_entry folded_place folded_where folded_end folded_line
 bad-folded = refl
 
-pub bad-extended : folded_line (bytes_of "loops.ext") folded (BadExtended 0) ≡ bytes_of "loops.ext: refused 17: bad extended contents; also points left over\n"
+pub bad-extended : folded_line (bytes_of "loops.ext") folded (Err (BadExtended 0)) ≡ bytes_of "loops.ext: refused 17: bad extended contents; also points left over\n"
 unfolding folded pick digits_of decimal u16_at u32_at extent_of unfold_row extended_words unfolding_words is_entry name_words entry_words at_byte folded_entry folded_place folded_where folded_end folded_line
 bad-extended = refl
 
-pub over-limit : folded_line (bytes_of "loops.ext") folded OverLimit ≡ bytes_of "loops.ext: refused 18: the unfolded score would break a limit\n"
+pub over-limit : folded_line (bytes_of "loops.ext") folded (Err OverLimit) ≡ bytes_of "loops.ext: refused 18: the unfolded score would break a limit\n"
 unfolding folded pick digits_of decimal u16_at u32_at extent_of unfold_row extended_words unfolding_words is_entry name_words entry_words at_byte folded_entry folded_place folded_where folded_end folded_line
 over-limit = refl

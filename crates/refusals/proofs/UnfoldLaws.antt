@@ -7,6 +7,7 @@ use native.Mathlib.Omega.{arith}
 use lib.ListN.{length}
 use borrow.Author.Rules.{rules}
 use borrow.Author.Tests.{le-leb, lt-leb}
+use Rattle.std.specs.Prelude.{Result, Ok, Err}
 use Rattle.base.specs.Tests.{pick}
 use Rattle.ascii.specs.Words.{newline}
 use Rattle.ascii.specs.Decimals.{decimal}
@@ -16,8 +17,8 @@ use Rattle.ascii.proofs.LayLaws.{laid-join, laid-nothing}
 use Rattle.contents.specs.declared.Fault.{Fault}
 use Rattle.extended.specs.declared.Extent.{Extent}
 use Rattle.extended.specs.Layout.{extended_contents, folded_size, extent_of, items_start}
-use Rattle.unfolding.specs.declared.Unfolding.{Unfolding}
-use Rattle.unfolding.specs.declared.Unfolding.TheVariants.{Made, NoRoom, BadExtended, OverLimit, BadFile}
+use Rattle.unfolding.specs.declared.UnfoldError.{UnfoldError}
+use Rattle.unfolding.specs.declared.UnfoldError.TheVariants.{NoRoom, BadExtended, OverLimit, BadFile}
 use Rattle.unfolding.specs.declared.UnfoldReply.{UnfoldReply}
 use Rattle.unfolding.specs.Replies.{unfold_row}
 use Rattle.wording.specs.Words.{unfolding_words}
@@ -69,25 +70,25 @@ place-told o m n f at a r (suc k) entry z e p q = rw (← e) (laid-join o m n _ 
 
 pub ruleset folded-places = (place_none, place-told, rules)
 
-module _ (o f : List ℕ) (at : ℕ) (u : Unfolding) where
+module _ (o f : List ℕ) (at : ℕ) (u : Result ℕ UnfoldError) where
   module _ (l : at + place_room + entry_room ≤ length o) where
-    pub where-made : (k : ℕ) → u ≡ Made k → Laid o at (folded_where f u) o at
+    pub where-made : (k : ℕ) → u ≡ Ok k → Laid o at (folded_where f u) o at
     unfolding folded_where
     where-made k e = rw e (laid-nothing o at (omega arith))
 
-    pub where-room : u ≡ NoRoom → Laid o at (folded_where f u) o at
+    pub where-room : u ≡ Err NoRoom → Laid o at (folded_where f u) o at
     unfolding folded_where
     where-room e = rw e (laid-nothing o at (omega arith))
 
-    pub where-limit : u ≡ OverLimit → Laid o at (folded_where f u) o at
+    pub where-limit : u ≡ Err OverLimit → Laid o at (folded_where f u) o at
     unfolding folded_where
     where-limit e = rw e (laid-nothing o at (omega arith))
 
-    pub where-file : (x : Fault) → u ≡ BadFile x → Laid o at (folded_where f u) o at
+    pub where-file : (x : Fault) → u ≡ Err (BadFile x) → Laid o at (folded_where f u) o at
     unfolding folded_where
     where-file x e = rw e (laid-nothing o at (omega arith))
 
-  pub where-item : (n : List ℕ) (r place : ℕ) → u ≡ BadExtended place → Laid o at (folded_place f place) n r → Laid o at (folded_where f u) n r
+  pub where-item : (n : List ℕ) (r place : ℕ) → u ≡ Err (BadExtended place) → Laid o at (folded_place f place) n r → Laid o at (folded_where f u) n r
   unfolding folded_where
   where-item n r place e l = rw e l
 
@@ -95,12 +96,12 @@ pub ruleset folded-wheres = (where-made, where-room, where-limit, where-file, wh
 
 -- ---- the line
 
-pub lay-folded-end : (o m₁ m₂ n : List ℕ) (at a b r : ℕ) (u : Unfolding) → Laid o at (bytes_of ": ") m₁ a → Laid m₁ a (unfolding_words u) m₂ b → Laid m₂ b (newline ∷ []) n r
+pub lay-folded-end : (o m₁ m₂ n : List ℕ) (at a b r : ℕ) (u : Result ℕ UnfoldError) → Laid o at (bytes_of ": ") m₁ a → Laid m₁ a (unfolding_words u) m₂ b → Laid m₂ b (newline ∷ []) n r
     → Laid o at (folded_end u) n r
 unfolding folded_end
 lay-folded-end o m₁ m₂ n at a b r u p q s = laid-join o m₁ n _ _ at a r p (laid-join m₁ m₂ n _ _ a b r q s)
 
-pub lay-folded : (o m₁ m₂ m₃ n name f : List ℕ) (a b d r : ℕ) (u : Unfolding) (row : UnfoldReply) → row ≡ unfold_row u → Laid o 0 name m₁ a
+pub lay-folded : (o m₁ m₂ m₃ n name f : List ℕ) (a b d r : ℕ) (u : Result ℕ UnfoldError) (row : UnfoldReply) → row ≡ unfold_row u → Laid o 0 name m₁ a
     → Laid m₁ a (bytes_of ": refused " ++ decimal row.number) m₂ b → Laid m₂ b (folded_where f u) m₃ d → Laid m₃ d (folded_end u) n r → Laid o 0 (folded_line name f u) n r
 unfolding folded_line
 lay-folded o m₁ m₂ m₃ n name f a b d r u row h p q s t =

@@ -1,13 +1,13 @@
 -- The line that tells people of an extended score that can't be unfolded, as `loops.ext: refused 17 at byte 72, item 1: an item that can't be unfolded`, or as
 -- `loops.ext: refused 18: the unfolded score would break a limit`.
-use Rattle.std.specs.Prelude.{ℕ, zero, suc, ◌-◌, ◌/◌, List, [], ◌∷◌, ◌++◌, leb, length}
+use Rattle.std.specs.Prelude.{ℕ, zero, suc, ◌-◌, ◌/◌, List, [], ◌∷◌, ◌++◌, leb, length, Result, Ok, Err}
 use Rattle.base.specs.Tests.{pick}
 use Rattle.ascii.specs.Words.{newline}
 use Rattle.ascii.specs.Decimals.{decimal}
 use Rattle.ascii.specs.Text.{bytes_of}
 use Rattle.extended.specs.Layout.{extended_contents, folded_size, extent_of, items_start}
-use Rattle.unfolding.specs.declared.Unfolding.{Unfolding}
-use Rattle.unfolding.specs.declared.Unfolding.TheVariants.{Made, NoRoom, BadExtended, OverLimit, BadFile}
+use Rattle.unfolding.specs.declared.UnfoldError.{UnfoldError}
+use Rattle.unfolding.specs.declared.UnfoldError.TheVariants.{NoRoom, BadExtended, OverLimit, BadFile}
 use Rattle.unfolding.specs.Replies.{unfold_row}
 use Rattle.wording.specs.Words.{unfolding_words}
 use Rattle.contents.specs.declared.entries.Entry.{Entry}
@@ -27,16 +27,16 @@ unfoldable pub folded_place : (extended : List ℕ) → (place : ℕ) → List �
 folded_place f zero = []
 folded_place f (suc k) = at_byte (suc k) ++ entry_words comma (folded_entry f (suc k))
 
-unfoldable pub folded_where : (extended : List ℕ) → Unfolding → List ℕ
-folded_where f (Made n) = []
-folded_where f NoRoom = []
-folded_where f (BadExtended place) = folded_place f place
-folded_where f OverLimit = []
-folded_where f (BadFile x) = []
+unfoldable pub folded_where : (extended : List ℕ) → Result ℕ UnfoldError → List ℕ
+folded_where f (Ok n) = []
+folded_where f (Err NoRoom) = []
+folded_where f (Err (BadExtended place)) = folded_place f place
+folded_where f (Err OverLimit) = []
+folded_where f (Err (BadFile x)) = []
 
 -- What is refused, then the table's row: number, place and words.
-unfoldable pub folded_end : Unfolding → List ℕ
+unfoldable pub folded_end : Result ℕ UnfoldError → List ℕ
 folded_end u = bytes_of ": " ++ (unfolding_words u ++ (newline ∷ []))
 
-unfoldable pub folded_line : (name extended : List ℕ) → Unfolding → List ℕ
+unfoldable pub folded_line : (name extended : List ℕ) → Result ℕ UnfoldError → List ℕ
 folded_line name f u = name ++ ((bytes_of ": refused " ++ decimal (unfold_row u).number) ++ (folded_where f u ++ folded_end u))

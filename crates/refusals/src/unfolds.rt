@@ -11,7 +11,7 @@ use ascii::{NEWLINE, put_byte, put_bytes};
 use contents::Entry;
 use extended::extent_of;
 use extended::layout::{EXTENDED_CONTENTS, FOLDED_SIZE, items_start};
-use unfolding::{Unfolding, replied_unfolding};
+use unfolding::{UnfoldError, replied_unfolding};
 use wording::{put_counted, put_unfold_words};
 
 // The item that holds this byte of an extended score, whatever its counts are.
@@ -41,21 +41,26 @@ fn put_folded_place(out: &mut [u8], at: usize, extended: &[u8], place: usize) ->
     put_entry(out, at, COMMA, folded_entry(extended, place))
 }
 
-fn put_folded_where(out: &mut [u8], at: usize, extended: &[u8], u: Unfolding) -> usize
+fn put_folded_where(
+    out: &mut [u8],
+    at: usize,
+    extended: &[u8],
+    u: Result<usize, UnfoldError>,
+) -> usize
     requires { at + place_room + entry_room ≤ length out.old }
     ensures { Laid out.old at (folded_where extended.now u) out.new result × (result ≤ at + place_room + entry_room) }
 {
     match u {
-        Unfolding::Made { size: _ } => at,
-        Unfolding::NoRoom => at,
-        Unfolding::BadExtended { place } => put_folded_place(out, at, extended, place),
-        Unfolding::OverLimit => at,
-        Unfolding::BadFile { fault: _ } => at,
+        Ok(_) => at,
+        Err(UnfoldError::NoRoom) => at,
+        Err(UnfoldError::BadExtended { place }) => put_folded_place(out, at, extended, place),
+        Err(UnfoldError::OverLimit) => at,
+        Err(UnfoldError::BadFile { fault: _ }) => at,
     }
 }
 
 // The words, and the line's end.
-fn put_folded_end(out: &mut [u8], at: usize, u: Unfolding) -> usize
+fn put_folded_end(out: &mut [u8], at: usize, u: Result<usize, UnfoldError>) -> usize
     requires { at + end_room ≤ length out.old }
     ensures { Laid out.old at (folded_end u) out.new result }
 {
@@ -65,7 +70,12 @@ fn put_folded_end(out: &mut [u8], at: usize, u: Unfolding) -> usize
 }
 
 // The line of an extended score that is refused for itself, from the front of `out`. Answers its length.
-pub fn folded_line(out: &mut [u8], name: &[u8], extended: &[u8], u: Unfolding) -> usize
+pub fn folded_line(
+    out: &mut [u8],
+    name: &[u8],
+    extended: &[u8],
+    u: Result<usize, UnfoldError>,
+) -> usize
     requires { text_line_room + length name.now ≤ length out.old }
     ensures { Laid out.old 0 (folded_line name.now extended.now u) out.new result }
 {

@@ -5,6 +5,7 @@ use Prim.Native.Nat.{ℕ, ◌+◌, ◌*◌, ◌≤◌, ◌<◌}
 use mathlib.Core.Bool.{true, false}
 use mathlib.Core.List.{List, map}
 use lib.ListN.{length, get_or}
+use Rattle.std.specs.Prelude.{Ok}
 use Rattle.score.specs.Piece.{Piece, decode}
 use Rattle.rules.specs.Terms.{Terms}
 use Rattle.rules.specs.Page.{entries}
@@ -20,7 +21,6 @@ use Rattle.demands.specs.Demands.{sent_by, messages_in, whole_piece, next_messag
 use Rattle.demands.proofs.Demand2.{demand-2, demand-2-room}
 use Rattle.demands.proofs.Demand2Sent.{demand-2-fits}
 use Rattle.demands.proofs.Demand3.{demand-3-c, demand-3-a-memory, demand-3-b-memory}
-use Rattle.unfolding.specs.declared.Unfolding.TheVariants.{Made}
 use Rattle.unfolding.specs.Extended.{extended_of}
 use Rattle.unfolding.specs.Sizes.{score_of}
 use Rattle.unfolding.specs.Answers.{unfolded_file, unfold_answer}
@@ -30,7 +30,7 @@ use Rattle.unfolding.proofs.FileLaws.{unfolded-says}
 
 -- ---- an extended score whose unfolding is granted
 
-module _ (room : ℕ) (f : List ℕ) (n : ℕ) (made : unfold_answer room f ≡ Made n) where
+module _ (room : ℕ) (f : List ℕ) (n : ℕ) (made : unfold_answer room f ≡ Ok n) where
   pub unfold-openable : (m : List ℕ) (o : Terms) → Opens m o → Openable (unfolded_file f) m o
   unfold-openable m o c = record { accepted = (granted room f n made).accepted; long = c.long; sixteen = c.sixteen; speed = c.speed; graced = c.graced }
 
@@ -64,7 +64,7 @@ module _ (room : ℕ) (f : List ℕ) (n : ℕ) (made : unfold_answer room f ≡ 
   unfold-demand-3-b m A B apart o c cs = demand-3-b-memory (unfolded_file f) m A B apart o (unfold-openable m (with_parts (A + B) o) c) cs
 
 -- (c): two extended scores that unfold to the same events, the same labels and the same items of the sounding parts are performed alike, look-ups included.
-module _ (room other : ℕ) (f g : List ℕ) (n k : ℕ) (made : unfold_answer room f ≡ Made n) (made' : unfold_answer other g ≡ Made k) (bytes : (i : ℕ) → get_or f i 0 < 256)
+module _ (room other : ℕ) (f g : List ℕ) (n k : ℕ) (made : unfold_answer room f ≡ Ok n) (made' : unfold_answer other g ≡ Ok k) (bytes : (i : ℕ) → get_or f i 0 < 256)
     (bytes' : (i : ℕ) → get_or g i 0 < 256) (o : Terms) (durations : (piece_of (score_of (extended_of f))).durations ≡ (piece_of (score_of (extended_of g))).durations)
     (labels : (piece_of (score_of (extended_of f))).labels ≡ (piece_of (score_of (extended_of g))).labels)
     (items : sounding_items (sounds o.parts) (piece_of (score_of (extended_of f))).items ≡ sounding_items (sounds o.parts) (piece_of (score_of (extended_of g))).items) where

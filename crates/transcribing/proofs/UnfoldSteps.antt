@@ -7,6 +7,7 @@ use native.Mathlib.Omega.{arith}
 use lib.ListN.{length}
 use borrow.Author.Rules.{rules}
 use borrow.Author.Tests.{le-leb, lt-leb, lt-ltb, le-ltb}
+use Rattle.std.specs.Prelude.{Result, Ok, Err}
 use Rattle.base.specs.Tests.{pick}
 use Rattle.ascii.specs.Laying.{Laid}
 use Rattle.ascii.proofs.LayLaws.{laid-nothing}
@@ -22,8 +23,8 @@ use Rattle.session.specs.declared.Refusal.TheVariants.{File}
 use Rattle.streams.specs.declared.ending.Ending.{Ending}
 use Rattle.extended.specs.declared.Extent.{Extent}
 use Rattle.extended.specs.Layout.{extended_contents, extent_of}
-use Rattle.unfolding.specs.declared.Unfolding.{Unfolding}
-use Rattle.unfolding.specs.declared.Unfolding.TheVariants.{Made, NoRoom, BadExtended, OverLimit, BadFile}
+use Rattle.unfolding.specs.declared.UnfoldError.{UnfoldError}
+use Rattle.unfolding.specs.declared.UnfoldError.TheVariants.{NoRoom, BadExtended, OverLimit, BadFile}
 use Rattle.contents.specs.declared.entries.Entry.TheVariants.{Event, Item}
 use Rattle.contents.specs.Entries.{entry_at}
 use Rattle.refusals.specs.Texts.{unmade_line}
@@ -55,24 +56,24 @@ pub lay-unfolded : (o n name f : List ℕ) (r : ℕ) (c : Counts) (x : Fault) �
     → Laid o 0 (unmade_line name (counts_folded f x) (File x)) n r
 lay-unfolded o n name f r c x e l = rw (← e) l
 
-module _ (o n name f : List ℕ) (r : ℕ) (u : Unfolding) where
-  pub unfold-room : u ≡ NoRoom → Laid o 0 (folded_line name f NoRoom) n r → Laid o 0 (unfold_line name f u) n r
+module _ (o n name f : List ℕ) (r : ℕ) (u : Result ℕ UnfoldError) where
+  pub unfold-room : u ≡ Err NoRoom → Laid o 0 (folded_line name f (Err NoRoom)) n r → Laid o 0 (unfold_line name f u) n r
   unfolding unfold_line
   unfold-room e l = rw e l
 
-  pub unfold-extended : (place : ℕ) → u ≡ BadExtended place → Laid o 0 (folded_line name f (BadExtended place)) n r → Laid o 0 (unfold_line name f u) n r
+  pub unfold-extended : (place : ℕ) → u ≡ Err (BadExtended place) → Laid o 0 (folded_line name f (Err (BadExtended place))) n r → Laid o 0 (unfold_line name f u) n r
   unfolding unfold_line
   unfold-extended place e l = rw e l
 
-  pub unfold-limit : u ≡ OverLimit → Laid o 0 (folded_line name f OverLimit) n r → Laid o 0 (unfold_line name f u) n r
+  pub unfold-limit : u ≡ Err OverLimit → Laid o 0 (folded_line name f (Err OverLimit)) n r → Laid o 0 (unfold_line name f u) n r
   unfolding unfold_line
   unfold-limit e l = rw e l
 
-  pub unfold-file : (x : Fault) → u ≡ BadFile x → Laid o 0 (unmade_line name (counts_folded f x) (File x)) n r → Laid o 0 (unfold_line name f u) n r
+  pub unfold-file : (x : Fault) → u ≡ Err (BadFile x) → Laid o 0 (unmade_line name (counts_folded f x) (File x)) n r → Laid o 0 (unfold_line name f u) n r
   unfolding unfold_line
   unfold-file x e l = rw e l
 
-pub unfold-made : (o name f : List ℕ) (u : Unfolding) (k : ℕ) → u ≡ Made k → Laid o 0 (unfold_line name f u) o 0
+pub unfold-made : (o name f : List ℕ) (u : Result ℕ UnfoldError) (k : ℕ) → u ≡ Ok k → Laid o 0 (unfold_line name f u) o 0
 unfolding unfold_line
 unfold-made o name f u k e = rw e (laid-nothing o 0 (omega arith))
 
@@ -80,7 +81,7 @@ pub ruleset unfolds = (lay-unfolded, unfold-made, unfold-room, unfold-extended, 
 
 -- ---- endings
 
-pub unfold-ending-case : (u v : Unfolding) (r : Ending) → u ≡ v → r ≡ unfold_ending v → r ≡ unfold_ending u
+pub unfold-ending-case : (u v : Result ℕ UnfoldError) (r : Ending) → u ≡ v → r ≡ unfold_ending v → r ≡ unfold_ending u
 unfold-ending-case u v r e p = rw e p
 
 pub ruleset unfold-endings = (unfold-ending-case, rules)

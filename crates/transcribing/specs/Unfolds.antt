@@ -1,5 +1,5 @@
 -- What `unfold` says of an extended score, and how it ends.
-use Rattle.std.specs.Prelude.{ℕ, List, [], leb, length}
+use Rattle.std.specs.Prelude.{ℕ, List, [], leb, length, Result, Ok, Err}
 use Rattle.base.specs.Tests.{pick}
 use Rattle.contents.specs.declared.Counts.{Counts}
 use Rattle.contents.specs.declared.Fault.{Fault}
@@ -9,8 +9,8 @@ use Rattle.session.specs.declared.Refusal.TheVariants.{File}
 use Rattle.streams.specs.declared.ending.Ending.{Ending}
 use Rattle.streams.specs.declared.ending.Ending.TheVariants.{Done, Refused}
 use Rattle.extended.specs.Layout.{extended_contents, extent_of}
-use Rattle.unfolding.specs.declared.Unfolding.{Unfolding}
-use Rattle.unfolding.specs.declared.Unfolding.TheVariants.{Made, NoRoom, BadExtended, OverLimit, BadFile}
+use Rattle.unfolding.specs.declared.UnfoldError.{UnfoldError}
+use Rattle.unfolding.specs.declared.UnfoldError.TheVariants.{NoRoom, BadExtended, OverLimit, BadFile}
 use Rattle.refusals.specs.Texts.{unmade_line}
 use Rattle.refusals.specs.Unfolds.{folded_line}
 
@@ -35,17 +35,17 @@ unfoldable pub counts_folded : List ℕ → Fault → Counts
 counts_folded f x = record { events = events_folded f; items = items_told x; messages = 0; text = 0 }
 
 -- Nothing is said where it was granted. A fault of the unfolded file has its place there.
-unfoldable pub unfold_line : (name extended : List ℕ) → Unfolding → List ℕ
-unfold_line name f (Made n) = []
-unfold_line name f NoRoom = folded_line name f NoRoom
-unfold_line name f (BadExtended place) = folded_line name f (BadExtended place)
-unfold_line name f OverLimit = folded_line name f OverLimit
-unfold_line name f (BadFile x) = unmade_line name (counts_folded f x) (File x)
+unfoldable pub unfold_line : (name extended : List ℕ) → Result ℕ UnfoldError → List ℕ
+unfold_line name f (Ok n) = []
+unfold_line name f (Err NoRoom) = folded_line name f (Err NoRoom)
+unfold_line name f (Err (BadExtended place)) = folded_line name f (Err (BadExtended place))
+unfold_line name f (Err OverLimit) = folded_line name f (Err OverLimit)
+unfold_line name f (Err (BadFile x)) = unmade_line name (counts_folded f x) (File x)
 
 -- "0 done, 1 refused"
-unfoldable pub unfold_ending : Unfolding → Ending
-unfold_ending (Made n) = Done
-unfold_ending NoRoom = Refused
-unfold_ending (BadExtended place) = Refused
-unfold_ending OverLimit = Refused
-unfold_ending (BadFile x) = Refused
+unfoldable pub unfold_ending : Result ℕ UnfoldError → Ending
+unfold_ending (Ok n) = Done
+unfold_ending (Err NoRoom) = Refused
+unfold_ending (Err (BadExtended place)) = Refused
+unfold_ending (Err OverLimit) = Refused
+unfold_ending (Err (BadFile x)) = Refused

@@ -13,7 +13,7 @@ use extended::layout::EXTENDED_CONTENTS;
 use refusals::{folded_line, unmade_line};
 use session::Refusal;
 use streams::Ending;
-use unfolding::Unfolding;
+use unfolding::UnfoldError;
 
 fn events_folded(extended: &[u8]) -> usize
     ensures { result ≡ events_folded extended.now }
@@ -64,33 +64,43 @@ fn put_unfolded(out: &mut [u8], name: &[u8], extended: &[u8], x: Fault) -> usize
 }
 
 // What `unfold` says of the extended score of this name, from the front of `out`: nothing where it was unfolded. Answers its length.
-pub fn unfold_line(out: &mut [u8], name: &[u8], extended: &[u8], u: Unfolding) -> usize
+pub fn unfold_line(
+    out: &mut [u8],
+    name: &[u8],
+    extended: &[u8],
+    u: Result<usize, UnfoldError>,
+) -> usize
     requires { line_room + length name.now ≤ length out.old }
     ensures { Laid out.old 0 (unfold_line name.now extended.now u) out.new result }
 {
     match u {
-        Unfolding::Made { size: _ } => 0,
-        Unfolding::NoRoom => folded_line(out, name, extended, Unfolding::NoRoom),
-        Unfolding::BadExtended { place } => folded_line(
+        Ok(_) => 0,
+        Err(UnfoldError::NoRoom) => folded_line(out, name, extended, Err(UnfoldError::NoRoom)),
+        Err(UnfoldError::BadExtended { place }) => folded_line(
             out,
             name,
             extended,
-            Unfolding::BadExtended { place },
+            Err(UnfoldError::BadExtended { place }),
         ),
-        Unfolding::OverLimit => folded_line(out, name, extended, Unfolding::OverLimit),
-        Unfolding::BadFile { fault } => put_unfolded(out, name, extended, fault),
+        Err(UnfoldError::OverLimit) => folded_line(
+            out,
+            name,
+            extended,
+            Err(UnfoldError::OverLimit),
+        ),
+        Err(UnfoldError::BadFile { fault }) => put_unfolded(out, name, extended, fault),
     }
 }
 
 // How it ends: done where something was made.
-pub fn unfold_ending(u: Unfolding) -> Ending
+pub fn unfold_ending(u: Result<usize, UnfoldError>) -> Ending
     ensures { result ≡ unfold_ending u }
 {
     match u {
-        Unfolding::Made { size: _ } => Ending::Done,
-        Unfolding::NoRoom => Ending::Refused,
-        Unfolding::BadExtended { place: _ } => Ending::Refused,
-        Unfolding::OverLimit => Ending::Refused,
-        Unfolding::BadFile { fault: _ } => Ending::Refused,
+        Ok(_) => Ending::Done,
+        Err(UnfoldError::NoRoom) => Ending::Refused,
+        Err(UnfoldError::BadExtended { place: _ }) => Ending::Refused,
+        Err(UnfoldError::OverLimit) => Ending::Refused,
+        Err(UnfoldError::BadFile { fault: _ }) => Ending::Refused,
     }
 }

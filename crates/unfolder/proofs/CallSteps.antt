@@ -6,6 +6,7 @@ use Prim.Native.Nat.{ℕ, ◌<◌, ◌≤◌}
 use lib.ListN.{length}
 use borrow.Author.Tests.{le-leb, lt-leb}
 use borrow.Author.Rules.{rules}
+use Rattle.std.specs.Prelude.{Result, Err}
 use Rattle.base.specs.Tests.{pick}
 use Rattle.base.specs.Checks.{fine}
 use Rattle.contents.specs.Limits.{longest_score}
@@ -14,17 +15,17 @@ use Rattle.folding.specs.declared.Folding.{Folding}
 use Rattle.folding.specs.declared.Folding.TheVariants.{Right, Wrong}
 use Rattle.folding.specs.Answers.{folding_of}
 use Rattle.folding.proofs.AnswerLaws.{told-right, told-wrong}
-use Rattle.unfolding.specs.declared.Unfolding.{Unfolding}
-use Rattle.unfolding.specs.declared.Unfolding.TheVariants.{NoRoom, BadExtended}
+use Rattle.unfolding.specs.declared.UnfoldError.{UnfoldError}
+use Rattle.unfolding.specs.declared.UnfoldError.TheVariants.{NoRoom, BadExtended}
 use Rattle.unfolding.specs.Answers.{answered, unfold_answer, unfolded_file, room_left}
 use Rattle.unfolder.specs.Inner.{Answers}
 
 module _ (f m : List ℕ) where
-  pub call-short : length m < longest_score → NoRoom ≡ unfold_answer (length m) f
+  pub call-short : length m < longest_score → Err NoRoom ≡ unfold_answer (length m) f
   unfolding unfold_answer pick
   call-short p = rw (lt-leb longest_score (length m) p)
 
-  pub short-left : m ≡ room_left NoRoom (unfolded_file f) m
+  pub short-left : m ≡ room_left (Err NoRoom) (unfolded_file f) m
   unfolding room_left
   short-left = refl
 
@@ -33,19 +34,19 @@ module _ (f m : List ℕ) where
     call-right e = told-right v (extended_right f) found e
 
     module _ (p : longest_score ≤ length m) where
-      pub call-bad : (place : ℕ) → v ≡ Wrong place → BadExtended place ≡ unfold_answer (length m) f
+      pub call-bad : (place : ℕ) → v ≡ Wrong place → Err (BadExtended place) ≡ unfold_answer (length m) f
       unfolding unfold_answer answered pick
       call-bad place e = rw (le-leb longest_score (length m) p, told-wrong v (extended_right f) place found e)
 
-      pub call-answered : v ≡ Right → (m' : List ℕ) (r : Unfolding) → Answers f m m' r → r ≡ unfold_answer (length m) f
+      pub call-answered : v ≡ Right → (m' : List ℕ) (r : Result ℕ UnfoldError) → Answers f m m' r → r ≡ unfold_answer (length m) f
       unfolding unfold_answer pick
       call-answered e m' r a = rw (le-leb longest_score (length m) p, call-right e) a.answer
 
-  pub bad-left : (place : ℕ) → m ≡ room_left (BadExtended place) (unfolded_file f) m
+  pub bad-left : (place : ℕ) → m ≡ room_left (Err (BadExtended place)) (unfolded_file f) m
   unfolding room_left
   bad-left place = refl
 
-  pub answered-left : (m' : List ℕ) (r : Unfolding) → Answers f m m' r → m' ≡ room_left r (unfolded_file f) m
+  pub answered-left : (m' : List ℕ) (r : Result ℕ UnfoldError) → Answers f m m' r → m' ≡ room_left r (unfolded_file f) m
   answered-left m' r a = a.left
 
 pub ruleset calls = (call-short, short-left, call-right, call-bad, call-answered, bad-left, answered-left, rules)

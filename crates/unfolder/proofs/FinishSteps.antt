@@ -26,8 +26,8 @@ use Rattle.score.proofs.EncodingPieces.{durations-size}
 use Rattle.filing.specs.Pieces.{filed}
 use Rattle.filing.specs.Bodies.{Bodies, file_in, settled, Settled}
 use Rattle.extended.specs.Layout.{events_start, extent_of}
-use Rattle.unfolding.specs.declared.Unfolding.{Unfolding}
-use Rattle.unfolding.specs.declared.Unfolding.TheVariants.{Made, BadFile}
+use Rattle.unfolding.specs.declared.UnfoldError.{UnfoldError}
+use Rattle.unfolding.specs.declared.UnfoldError.TheVariants.{BadFile}
 use Rattle.unfolding.specs.Extended.{extended_of}
 use Rattle.unfolding.specs.Sizes.{score_of, counts_on, file_of}
 use Rattle.unfolding.specs.Answers.{judged, answered, room_left, unfolded_file}
@@ -62,13 +62,13 @@ pub ruleset copies = (durations-none, durations-step, durations-all, rules)
 -- ---- the answer
 
 module _ (f m m' : List ℕ) (v : Result (Unit {0}) Fault) (a : Settled f m m' v) where
-  pub settle-refused : (x : Fault) → v ≡ Err x → Settles f m m' (BadFile x)
+  pub settle-refused : (x : Fault) (r : Result ℕ UnfoldError) → v ≡ Err x → r ≡ Err (BadFile x) → Settles f m m' r
   unfolding judged room_left settled
-  settle-refused x p =
+  settle-refused x r p e =
       let z = verdict-refused (checked f) v x a.verdict p in
-      record { answer = rw z; left = rw z at a.left }
+      record { answer = rw (z, e); left = rw e (rw z at a.left) }
 
-  pub settle-made : v ≡ Ok tt → Settles f m m' (Made (length f))
+  pub settle-made : v ≡ Ok tt → Settles f m m' (Ok (length f))
   unfolding judged room_left settled
   settle-made p =
       let z = verdict-fine (checked f) v a.verdict p in
@@ -120,7 +120,7 @@ module _ (f : List ℕ) (k : Counts) (is es ls : List ℕ) (asked : Built f k is
         let s : size ≡ 0 + length (file_in k d is es ls) = put.stop in
         omega (arith, ap length made-file, made-short f asked.limits)
 
-    pub make-told : (file' m m' : List ℕ) (size : ℕ) (r : Unfolding) → Laid file 0 (file_in k d is es ls) file' size → Settles (take size file') m m' r → Answers f m m' r
+    pub make-told : (file' m m' : List ℕ) (size : ℕ) (r : Result ℕ UnfoldError) → Laid file 0 (file_in k d is es ls) file' size → Settles (take size file') m m' r → Answers f m m' r
     unfolding answered pick score_in
     make-told file' m m' size r put s =
         let e : take size file' ≡ unfolded_file f = put.front ∙ made-file in

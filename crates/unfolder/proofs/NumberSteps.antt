@@ -7,6 +7,7 @@ use Prim.Native.Nat.{ℕ, ◌+◌, ◌*◌, ◌≤◌}
 use native.Mathlib.Omega.{arith}
 use lib.ListN.{length, take}
 use borrow.Author.Rules.{rules}
+use Rattle.std.specs.Prelude.{Err}
 use Rattle.ascii.specs.Laying.{Laid}
 use Rattle.contents.specs.declared.Counts.{Counts}
 use Rattle.contents.specs.Limits.{item_size, most_items, most_actions, deepest}
@@ -18,7 +19,7 @@ use Rattle.extended.specs.Layout.{folded_size, items_start, whole_size}
 use Rattle.shapes.specs.Shapes.{shapes_from}
 use Rattle.tables.specs.Tables.{items_in, points_in, values_in, Valued}
 use Rattle.tables.proofs.ValueLaws.{valued-below}
-use Rattle.unfolding.specs.declared.Unfolding.TheVariants.{OverLimit}
+use Rattle.unfolding.specs.declared.UnfoldError.TheVariants.{OverLimit}
 use Rattle.unfolding.specs.Extended.{extended_of, numbered}
 use Rattle.unfolding.specs.Unfolded.{unfolded, items, actions, depth, page}
 use Rattle.unfolding.specs.Sizes.{counts_on, within_limits}
@@ -66,7 +67,7 @@ module _ (f : List ℕ) (c : Extent) (t : List ℕ) (n : ℕ) (values : List ℕ
     listed : Names (extended_of f).messages (values_in f c) count es ls ns r
     listed = rw asked.valued.values at names
 
-    pub names-over : (m : List ℕ) → r ≡ Over → Answers f m m OverLimit
+    pub names-over : (m : List ℕ) → r ≡ Over → Answers f m m (Err OverLimit)
     names-over m e =
         over-limit f m
         (λ l. let a : fits (score_in f).messages ≡ true = fits_both (score_in f).messages l.messages_few l.text_short in

@@ -8,6 +8,7 @@ use native.Mathlib.Omega.{arith}
 use lib.ListN.{length, take, drop, length-drop}
 use lib.Seq.{length-take-le}
 use borrow.Author.Tests.{leb-true, le-leb}
+use Rattle.std.specs.Prelude.{Err}
 use Rattle.base.specs.Tests.{pick, every}
 use Rattle.base.specs.Checks.{fine}
 use Rattle.base.proofs.TestLaws.{every-head, every_rest, between-low, between-high, between_in}
@@ -20,7 +21,7 @@ use Rattle.extended.specs.Inner.{Foldable}
 use Rattle.shapes.specs.Limits.{row_words}
 use Rattle.tables.specs.Tables.{items_in, points_in, values_in, table_in}
 use Rattle.extended.proofs.ListLaws.{folded-length}
-use Rattle.unfolding.specs.declared.Unfolding.TheVariants.{OverLimit}
+use Rattle.unfolding.specs.declared.UnfoldError.TheVariants.{OverLimit}
 use Rattle.unfolding.specs.Messages.{with_values}
 use Rattle.unfolding.specs.Extended.{extended_of, numbered}
 use Rattle.unfolding.specs.Unfolded.{unfolded, items, actions}
@@ -36,10 +37,10 @@ use Rattle.unfolder.specs.Inner.{Answers, score_in, few}
 -- ---- the limits
 
 -- a score that is not within them is told so, and the room stays
-pub over-limit : (f m : List ℕ) → (Limits (score_in f) → ⊥) → Answers f m m OverLimit
+pub over-limit : (f m : List ℕ) → (Limits (score_in f) → ⊥) → Answers f m m (Err OverLimit)
 unfolding answered pick score_in room_left
 over-limit f m past = record { answer = go (within_limits (score_in f)) refl; left = refl } where
-  go : (b : Bool) → within_limits (score_in f) ≡ b → OverLimit ≡ answered f fine
+  go : (b : Bool) → within_limits (score_in f) ≡ b → Err OverLimit ≡ answered f fine
   go true e = absurd (past (limits-held (score_in f) e))
   go false e = rw e
 

@@ -7,6 +7,7 @@ use Prim.Native.Nat.{ℕ, ◌*◌, ◌≤◌}
 use native.Mathlib.Omega.{arith}
 use lib.ListN.{length, take}
 use borrow.Author.Rules.{rules}
+use Rattle.std.specs.Prelude.{Err}
 use Rattle.base.specs.Checks.{fine}
 use Rattle.base.proofs.TestLaws.{told-true, told-false}
 use Rattle.ascii.specs.Laying.{Laid}
@@ -28,7 +29,7 @@ use Rattle.tables.specs.declared.Table.{Table}
 use Rattle.tables.specs.declared.Table.TheVariants as table
 use Rattle.tables.specs.Tables.{points_in, table_in, Tabled}
 use Rattle.tables.proofs.TableLaws.{filled-few, filled-laid, over-many}
-use Rattle.unfolding.specs.declared.Unfolding.TheVariants.{OverLimit}
+use Rattle.unfolding.specs.declared.UnfoldError.TheVariants.{OverLimit}
 use Rattle.unfolding.specs.Extended.{extended_of}
 use Rattle.unfolding.specs.Unfolded.{items, actions, depth}
 use Rattle.building.proofs.RowLaws.{items-here, actions-here, depth-here}
@@ -45,7 +46,7 @@ module _ (f : List ℕ) (right : extended_right f ≡ fine) where
     foldable : Foldable f c
     foldable = rw counts (right-foldable f right (rw counts at small))
 
-    pub counts-over : (t : Bool) (m : List ℕ) → t ≡ few c → not t ≡ true → Answers f m m OverLimit
+    pub counts-over : (t : Bool) (m : List ℕ) → t ≡ few c → not t ≡ true → Answers f m m (Err OverLimit)
     counts-over t m e p =
         over-limit f m (λ l. let a : few c ≡ true = few-held f c foldable l in let b : few c ≡ false = told-false t (few c) e p in let z : ◌≡◌ {A = ℕ} 0 1 = cc in omega arith)
 
@@ -61,7 +62,7 @@ module _ (f : List ℕ) (c : Extent) (t : List ℕ) (asked : Sizable f c t) wher
   items-most = (few-is c asked.short).items
 
   module _ (t' : List ℕ) (r : Table) (tabled : Tabled f c t t' r) where
-    pub table-over : (m : List ℕ) → r ≡ table.Over → Answers f m m OverLimit
+    pub table-over : (m : List ℕ) → r ≡ table.Over → Answers f m m (Err OverLimit)
     table-over m e =
         over-limit f m (λ l. let n = over-many f c t t' (rw e at tabled) in let k = values-least f c asked.foldable in omega (arith, l.actions_few))
 
@@ -91,7 +92,7 @@ module _ (f : List ℕ) (c : Extent) (t : List ℕ) (asked : Sizable f c t) wher
           (depth-here f (items_start c) t' t' c.items (points_in f c) (extended_of f).messages (rows_are f c t' table-rows) asked.foldable.folds)
 
       module _ (w : Sizes) (found : w ≡ sizes_of (shapes.unfolded (shapes_from t' 0 c.items))) where
-        pub sizes-over : (m : List ℕ) → w ≡ Over → Answers f m m OverLimit
+        pub sizes-over : (m : List ℕ) → w ≡ Over → Answers f m m (Err OverLimit)
         sizes-over m e =
             over-limit f m
             (λ l. over-exact (shapes.unfolded (shapes_from t' 0 c.items)) (sym found ∙ e)

@@ -1,5 +1,5 @@
 -- What the inner functions ask and answer. No promise of the call needs it.
-use Rattle.std.specs.Prelude.{ℕ, ◌+◌, ◌*◌, ◌≤◌, ◌≡◌, Bool, true, List, [], ◌∷◌, leb, length, take}
+use Rattle.std.specs.Prelude.{ℕ, ◌+◌, ◌*◌, ◌≤◌, ◌≡◌, Bool, true, List, [], ◌∷◌, leb, length, take, Result}
 use Rattle.base.specs.Tests.{every, between}
 use Rattle.base.specs.Checks.{fine}
 use Rattle.contents.specs.declared.Counts.{Counts}
@@ -12,7 +12,7 @@ use Rattle.extended.specs.Layout.{events_start}
 use Rattle.extended.specs.Inner.{Foldable}
 use Rattle.shapes.specs.Limits.{row_words}
 use Rattle.tables.specs.Tables.{table_in, values_in, Valued}
-use Rattle.unfolding.specs.declared.Unfolding.{Unfolding}
+use Rattle.unfolding.specs.declared.UnfoldError.{UnfoldError}
 use Rattle.unfolding.specs.Messages.{entries_bytes, numbers_of}
 use Rattle.unfolding.specs.Extended.{extended_of}
 use Rattle.unfolding.specs.Unfolded.{items, actions, depth, page}
@@ -20,12 +20,12 @@ use Rattle.unfolding.specs.Sizes.{Score, score_of, counts_on, within_limits}
 use Rattle.unfolding.specs.Answers.{judged, answered, room_left, unfolded_file}
 
 -- What is answered to a score without a fault of its own, and what then stands in the room.
-pub record Answers (f m new : List ℕ) (r : Unfolding) : Type 0 where
+pub record Answers (f m new : List ℕ) (r : Result ℕ UnfoldError) : Type 0 where
   pub answer : r ≡ answered f fine
   pub left : new ≡ room_left r (unfolded_file f) m
 
 -- What is told of a file, and what then stands in the room.
-pub record Settles (f m new : List ℕ) (r : Unfolding) : Type 0 where
+pub record Settles (f m new : List ℕ) (r : Result ℕ UnfoldError) : Type 0 where
   pub answer : r ≡ judged f (checked f)
   pub left : new ≡ room_left r f m
 

@@ -12,7 +12,7 @@ use contents::limits::{EVENT_SIZE, LONGEST_SCORE};
 use contents::Counts;
 use extended::layout::EXTENDED_CONTENTS;
 use filing::{join, put32, settle_file};
-use unfolding::Unfolding;
+use unfolding::UnfoldError;
 
 const DURATIONS_ROOM: usize = 1024;
 
@@ -32,15 +32,12 @@ fn copy_durations(extended: &[u8], count: usize, out: &mut [u8]) -> usize
 }
 
 // The file in the room, where it is right.
-fn settle(file: &[u8], room: &mut [u8]) -> Unfolding
+fn settle(file: &[u8], room: &mut [u8]) -> Result<usize, UnfoldError>
     requires { length file.now ≤ length room.old }
     ensures { Settles file.now room.old room.new result }
 {
-    let settled = settle_file(file, room);
-    match settled {
-        Ok(()) => Unfolding::Made { size: file.len() },
-        Err(fault) => Unfolding::BadFile { fault },
-    }
+    settle_file(file, room)?;
+    Ok(file.len())
 }
 
 // The file of the bodies, made elsewhere, and then its answer.
@@ -52,7 +49,7 @@ fn make(
     labels: &[u8],
     file: &mut [u8],
     room: &mut [u8],
-) -> Unfolding
+) -> Result<usize, UnfoldError>
     requires { Built extended.now k items.now entries.now labels.now × (longest_score ≤ length file.old) × (longest_score ≤ length room.old) }
     ensures { Answers extended.now room.old room.new result }
 {
@@ -69,7 +66,7 @@ pub fn finish(
     entries: &[u8],
     labels: &[u8],
     room: &mut [u8],
-) -> Unfolding
+) -> Result<usize, UnfoldError>
     requires { Built extended.now k items.now entries.now labels.now × (longest_score ≤ length room.old) }
     ensures { Answers extended.now room.old room.new result }
 {

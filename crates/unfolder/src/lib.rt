@@ -8,23 +8,23 @@ ghost use Rattle.unfolding.specs.Answers.{unfold_answer, unfolded_file, room_lef
 use contents::limits::LONGEST_SCORE;
 use folding::{Folding, check_extended};
 use sizing::measure;
-use unfolding::Unfolding;
+use unfolding::UnfoldError;
 
 mod finishing;
 mod numbering;
 mod sizing;
 
 // Unfolds an extended score and puts the file at the front of the room.
-pub fn unfold(extended: &[u8], room: &mut [u8]) -> Unfolding
+pub fn unfold(extended: &[u8], room: &mut [u8]) -> Result<usize, UnfoldError>
     ensures value { result ≡ unfold_answer (length room.old) extended.now }
     ensures room_after { room.new ≡ room_left result (unfolded_file extended.now) room.old }
 {
     if room.len() < LONGEST_SCORE {
-        return Unfolding::NoRoom;
+        return Err(UnfoldError::NoRoom);
     }
     let found = check_extended(extended);
     match found {
         Folding::Right => measure(extended, room),
-        Folding::Wrong { place } => Unfolding::BadExtended { place },
+        Folding::Wrong { place } => Err(UnfoldError::BadExtended { place }),
     }
 }

@@ -11,7 +11,7 @@ use extended::Extent;
 use extended::layout::items_start;
 use naming::{Naming, name_values};
 use tables::fill_values;
-use unfolding::Unfolding;
+use unfolding::UnfoldError;
 
 const VALUES_ROOM: usize = 1024;
 
@@ -31,7 +31,7 @@ fn lay(
     entries: &[u8],
     labels: &[u8],
     room: &mut [u8],
-) -> Unfolding
+) -> Result<usize, UnfoldError>
     requires { Listed extended.now c table.now numbers.now k entries.now labels.now × (longest_score ≤ length room.old) }
     ensures { Answers extended.now room.old room.new result }
 {
@@ -59,13 +59,13 @@ fn list(
     labels: &mut [u8],
     numbers: &mut [u16],
     room: &mut [u8],
-) -> Unfolding
+) -> Result<usize, UnfoldError>
     requires { Nameable extended.now c table.now items values.now count × ListRoom entries.old labels.old × (most_actions ≤ length numbers.old) × (longest_score ≤ length room.old) }
     ensures { Answers extended.now room.old room.new result }
 {
     let named = name_values(extended, c, values, count, entries, labels, numbers);
     let Naming::Named { messages, text } = named else {
-        return Unfolding::OverLimit;
+        return Err(UnfoldError::OverLimit);
     };
     let k = Counts {
         events: c.events,
@@ -84,7 +84,7 @@ fn name(
     values: &[u64],
     count: usize,
     room: &mut [u8],
-) -> Unfolding
+) -> Result<usize, UnfoldError>
     requires { Nameable extended.now c table.now items values.now count × (longest_score ≤ length room.old) }
     ensures { Answers extended.now room.old room.new result }
 {
@@ -106,7 +106,13 @@ fn name(
 }
 
 // A score whose items, actions and depth are within the limits: so many items.
-pub fn number(extended: &[u8], c: Extent, table: &[u32], items: usize, room: &mut [u8]) -> Unfolding
+pub fn number(
+    extended: &[u8],
+    c: Extent,
+    table: &[u32],
+    items: usize,
+    room: &mut [u8],
+) -> Result<usize, UnfoldError>
     requires { Measured extended.now c table.now items × (longest_score ≤ length room.old) }
     ensures { Answers extended.now room.old room.new result }
 {

@@ -10,7 +10,7 @@ use contents::limits::{MOST_EVENTS, MOST_ITEMS, MOST_MESSAGES, MOST_TEXT};
 use extended::{Extent, extent_of};
 use shapes::{Sizes, find_sizes};
 use tables::{Table, fill_table};
-use unfolding::Unfolding;
+use unfolding::UnfoldError;
 
 // A row of four words for each of 2,048 items.
 const TABLE_ROOM: usize = 8192;
@@ -35,28 +35,33 @@ fn few_enough(c: Extent) -> bool
 }
 
 // A score whose items were found right, with few enough of everything on its page.
-fn size_page(extended: &[u8], c: Extent, table: &mut [u32], room: &mut [u8]) -> Unfolding
+fn size_page(
+    extended: &[u8],
+    c: Extent,
+    table: &mut [u32],
+    room: &mut [u8],
+) -> Result<usize, UnfoldError>
     requires { Sizable extended.now c table.old × (longest_score ≤ length room.old) }
     ensures { Answers extended.now room.old room.new result }
 {
     let filled = fill_table(extended, c, table);
     let Table::Filled { values: _ } = filled else {
-        return Unfolding::OverLimit;
+        return Err(UnfoldError::OverLimit);
     };
     let sizes = find_sizes(table, c.items);
     let Sizes::Within(items, _) = sizes else {
-        return Unfolding::OverLimit;
+        return Err(UnfoldError::OverLimit);
     };
     number(extended, c, table, items, room)
 }
 
-pub fn measure(extended: &[u8], room: &mut [u8]) -> Unfolding
+pub fn measure(extended: &[u8], room: &mut [u8]) -> Result<usize, UnfoldError>
     requires { (extended_right extended.now ≡ fine) × (longest_score ≤ length room.old) }
     ensures { Answers extended.now room.old room.new result }
 {
     let c = extent_of(extended);
     if !few_enough(c) {
-        return Unfolding::OverLimit;
+        return Err(UnfoldError::OverLimit);
     }
     let mut table = [0; TABLE_ROOM];
     size_page(extended, c, &mut table, room)

@@ -8,13 +8,14 @@ use native.Mathlib.Omega.{arith}
 use lib.Dec.{leb}
 use lib.ListN.{length}
 use borrow.Author.Tests.{leb-true}
+use Rattle.std.specs.Prelude.{Ok, Err}
 use Rattle.base.specs.Tests.{pick}
 use Rattle.base.specs.Checks.{Check, fine, refused}
 use Rattle.contents.specs.declared.Fault.{Fault}
 use Rattle.contents.specs.Limits.{longest_score}
 use Rattle.score.specs.File.{checked, Accepted}
 use Rattle.extended.specs.Right.{extended_right}
-use Rattle.unfolding.specs.declared.Unfolding.TheVariants.{Made, NoRoom, OverLimit}
+use Rattle.unfolding.specs.declared.UnfoldError.TheVariants.{NoRoom, OverLimit}
 use Rattle.unfolding.specs.Extended.{extended_of}
 use Rattle.unfolding.specs.Sizes.{score_of, within_limits}
 use Rattle.unfolding.specs.Answers.{unfolded_file, judged, answered, unfold_answer}
@@ -27,28 +28,28 @@ pub record Granted (room : ℕ) (f : List ℕ) (n : ℕ) : Type 0 where
   pub size : length (unfolded_file f) ≡ n
 
 module _ (room : ℕ) (f : List ℕ) (n : ℕ) where
-  judged-made : (v : Check Fault) → judged (unfolded_file f) v ≡ Made n → (v ≡ fine) × (length (unfolded_file f) ≡ n)
+  judged-made : (v : Check Fault) → judged (unfolded_file f) v ≡ Ok n → (v ≡ fine) × (length (unfolded_file f) ≡ n)
   unfolding judged
   judged-made fine e = (refl, cc)
   judged-made (refused x) e = let z : ◌≡◌ {A = ℕ} 0 1 = cc in absurd (omega arith)
 
-  within-made : (b : Bool) → pick b (judged (unfolded_file f) (checked (unfolded_file f))) OverLimit ≡ Made n → (b ≡ true) × (judged (unfolded_file f) (checked (unfolded_file f)) ≡ Made n)
+  within-made : (b : Bool) → pick b (judged (unfolded_file f) (checked (unfolded_file f))) (Err OverLimit) ≡ Ok n → (b ≡ true) × (judged (unfolded_file f) (checked (unfolded_file f)) ≡ Ok n)
   unfolding pick
   within-made true e = (refl, e)
   within-made false e = let z : ◌≡◌ {A = ℕ} 0 1 = cc in absurd (omega arith)
 
-  right-made : (v : Check ℕ) → answered f v ≡ Made n
-      → (v ≡ fine) × (pick (within_limits (score_of (extended_of f))) (judged (unfolded_file f) (checked (unfolded_file f))) OverLimit ≡ Made n)
+  right-made : (v : Check ℕ) → answered f v ≡ Ok n
+      → (v ≡ fine) × (pick (within_limits (score_of (extended_of f))) (judged (unfolded_file f) (checked (unfolded_file f))) (Err OverLimit) ≡ Ok n)
   unfolding answered
   right-made fine e = (refl, e)
   right-made (refused p) e = let z : ◌≡◌ {A = ℕ} 0 1 = cc in absurd (omega arith)
 
-  room-made : (b : Bool) → pick b (answered f (extended_right f)) NoRoom ≡ Made n → (b ≡ true) × (answered f (extended_right f) ≡ Made n)
+  room-made : (b : Bool) → pick b (answered f (extended_right f)) (Err NoRoom) ≡ Ok n → (b ≡ true) × (answered f (extended_right f) ≡ Ok n)
   unfolding pick
   room-made true e = (refl, e)
   room-made false e = let z : ◌≡◌ {A = ℕ} 0 1 = cc in absurd (omega arith)
 
-  pub granted : unfold_answer room f ≡ Made n → Granted room f n
+  pub granted : unfold_answer room f ≡ Ok n → Granted room f n
   unfolding unfold_answer
   granted e =
       let a = room-made (leb longest_score room) e in

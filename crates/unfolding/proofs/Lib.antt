@@ -1,5 +1,4 @@
 -- Laws of unfolding.
-mod ReplySteps
 pub mod Shapes
 pub mod CountLaws
 pub mod CurveItems

@@ -8,6 +8,7 @@ use native.Mathlib.Omega.{arith}
 use lib.Dec.{leb}
 use lib.ListN.{length, drop, length-append, length-drop}
 use borrow.Author.Tests.{leb-true, le-leb, lt-leb}
+use Rattle.std.specs.Prelude.{Result, Ok, Err}
 use Rattle.base.specs.Tests.{pick}
 use Rattle.base.specs.Checks.{Check, fine, refused}
 use Rattle.contents.specs.declared.Fault.{Fault}
@@ -20,8 +21,8 @@ use Rattle.score.specs.File.{bodies_right, checked}
 use Rattle.score.proofs.EncodingPieces.{bodies-decide}
 use Rattle.score.proofs.BodyFaults.{Finds, no_fault, some_fault, Told, ToldRule, any-breaks, items-of, bodies_of}
 use Rattle.extended.specs.Right.{extended_right}
-use Rattle.unfolding.specs.declared.Unfolding.{Unfolding}
-use Rattle.unfolding.specs.declared.Unfolding.TheVariants.{Made, NoRoom, BadExtended, OverLimit, BadFile}
+use Rattle.unfolding.specs.declared.UnfoldError.{UnfoldError}
+use Rattle.unfolding.specs.declared.UnfoldError.TheVariants.{NoRoom, BadExtended, OverLimit, BadFile}
 use Rattle.unfolding.specs.Extended.{extended_of}
 use Rattle.unfolding.specs.Sizes.{Score, score_of, counts_on, within_limits, file_of}
 use Rattle.unfolding.specs.Answers.{unfolded_file, judged, answered, unfold_answer, room_left}
@@ -32,55 +33,55 @@ use Rattle.unfolding.proofs.FileLaws.{file-size}
 -- ---- one outcome
 
 module _ (f m : List ℕ) where
-  pub one-outcome : (new other : List ℕ) (r s : Unfolding) → r ≡ unfold_answer (length m) f → new ≡ room_left r (unfolded_file f) m → s ≡ unfold_answer (length m) f
+  pub one-outcome : (new other : List ℕ) (r s : Result ℕ UnfoldError) → r ≡ unfold_answer (length m) f → new ≡ room_left r (unfolded_file f) m → s ≡ unfold_answer (length m) f
       → other ≡ room_left s (unfolded_file f) m → (r ≡ s) × (new ≡ other)
   one-outcome new other r s a b c d = (a ∙ sym c, cc)
 
 -- A refusal leaves the room: every answer whose number is not 0.
-pub refusal-leaves : (r : Unfolding) (made m : List ℕ) → ((unfold_row r).number ≡ 0 → ⊥) → room_left r made m ≡ m
+pub refusal-leaves : (r : Result ℕ UnfoldError) (made m : List ℕ) → ((unfold_row r).number ≡ 0 → ⊥) → room_left r made m ≡ m
 unfolding unfold_row room_left
-refusal-leaves (Made n) made m h = absurd (h refl)
-refusal-leaves NoRoom made m h = refl
-refusal-leaves (BadExtended place) made m h = refl
-refusal-leaves OverLimit made m h = refl
-refusal-leaves (BadFile x) made m h = refl
+refusal-leaves (Ok n) made m h = absurd (h refl)
+refusal-leaves (Err NoRoom) made m h = refl
+refusal-leaves (Err (BadExtended place)) made m h = refl
+refusal-leaves (Err OverLimit) made m h = refl
+refusal-leaves (Err (BadFile x)) made m h = refl
 
 -- ---- which answer comes when, in the order of the checks
 
 module _ (room : ℕ) (f : List ℕ) where
   -- 2: a room that is too short, whatever the file.
-  pub room-short : room < longest_score → unfold_answer room f ≡ NoRoom
+  pub room-short : room < longest_score → unfold_answer room f ≡ Err NoRoom
   unfolding unfold_answer pick
   room-short l = rw (lt-leb longest_score room l)
 
   module _ (l : longest_score ≤ room) where
     -- 17, with the place of what can't be unfolded.
-    pub extended-bad : (place : ℕ) → extended_right f ≡ refused place → unfold_answer room f ≡ BadExtended place
+    pub extended-bad : (place : ℕ) → extended_right f ≡ refused place → unfold_answer room f ≡ Err (BadExtended place)
     unfolding unfold_answer pick answered
     extended-bad place e = rw (le-leb longest_score room l, e)
 
     module _ (e : extended_right f ≡ fine) where
       -- 18, at 0.
-      pub limit-broken : within_limits (score_of (extended_of f)) ≡ false → unfold_answer room f ≡ OverLimit
+      pub limit-broken : within_limits (score_of (extended_of f)) ≡ false → unfold_answer room f ≡ Err OverLimit
       unfolding unfold_answer pick answered
       limit-broken w = rw (le-leb longest_score room l, e, w)
 
       -- The unfolded file's own fault, with its place in that file.
-      pub file-bad : (x : Fault) → within_limits (score_of (extended_of f)) ≡ true → checked (unfolded_file f) ≡ refused x → unfold_answer room f ≡ BadFile x
+      pub file-bad : (x : Fault) → within_limits (score_of (extended_of f)) ≡ true → checked (unfolded_file f) ≡ refused x → unfold_answer room f ≡ Err (BadFile x)
       unfolding unfold_answer pick answered judged
       file-bad x w c = rw (le-leb longest_score room l, e, w, c)
 
       -- All is well: so many bytes were made.
-      pub file-made : within_limits (score_of (extended_of f)) ≡ true → checked (unfolded_file f) ≡ fine → unfold_answer room f ≡ Made (length (unfolded_file f))
+      pub file-made : within_limits (score_of (extended_of f)) ≡ true → checked (unfolded_file f) ≡ fine → unfold_answer room f ≡ Ok (length (unfolded_file f))
       unfolding unfold_answer pick answered judged
       file-made w c = rw (le-leb longest_score room l, e, w, c)
 
 -- 17 is told with its place, 18 at 0.
-pub extended-told : (place : ℕ) → unfold_row (BadExtended place) ≡ record { number = 17; place = place; size = 0 }
+pub extended-told : (place : ℕ) → unfold_row (Err (BadExtended place)) ≡ record { number = 17; place = place; size = 0 }
 unfolding unfold_row
 extended-told place = refl
 
-pub limit-told : unfold_row OverLimit ≡ record { number = 18; place = 0; size = 0 }
+pub limit-told : unfold_row (Err OverLimit) ≡ record { number = 18; place = 0; size = 0 }
 unfolding unfold_row
 limit-told = refl
 
@@ -127,7 +128,7 @@ module _ (P : ℕ → Type 0) (finds : (f : List ℕ) → within_limits (score_o
   judged-number made (refused x) (some_fault p) = of_file p
 
   limited-number : (f : List ℕ) (b : Bool) → within_limits (score_of (extended_of f)) ≡ b
-      → Number P (unfold_row (pick b (judged (unfolded_file f) (checked (unfolded_file f))) OverLimit)).number
+      → Number P (unfold_row (pick b (judged (unfolded_file f) (checked (unfolded_file f))) (Err OverLimit))).number
   unfolding pick unfold_row
   limited-number f true e = judged-number (unfolded_file f) (checked (unfolded_file f)) (finds f e)
   limited-number f false e = of_limit
@@ -137,7 +138,7 @@ module _ (P : ℕ → Type 0) (finds : (f : List ℕ) → within_limits (score_o
   answered-number f fine = limited-number f (within_limits (score_of (extended_of f))) refl
   answered-number f (refused place) = of_extended
 
-  room-number : (b : Bool) (u : Unfolding) → Number P (unfold_row u).number → Number P (unfold_row (pick b u NoRoom)).number
+  room-number : (b : Bool) (u : Result ℕ UnfoldError) → Number P (unfold_row u).number → Number P (unfold_row (pick b u (Err NoRoom))).number
   unfolding pick unfold_row
   room-number true u h = h
   room-number false u h = short_room
@@ -171,7 +172,7 @@ unfolding unfolded_file
 made-short f w = let k = limits-counted (score_of (extended_of f)) w in omega (arith, file-size (score_of (extended_of f)))
 
 module _ (f m : List ℕ) where
-  abbrev left : Unfolding → ℕ
+  abbrev left : Result ℕ UnfoldError → ℕ
   left r = length (room_left r (unfolded_file f) m)
 
   judged-left : (v : Check Fault) → length (unfolded_file f) ≤ length m → left (judged (unfolded_file f) v) ≡ length m
@@ -181,7 +182,7 @@ module _ (f m : List ℕ) where
       length-append (unfolded_file f) (drop n m) ∙ omega (arith, length-drop n m)
   judged-left (refused x) l = refl
 
-  limited-left : (b : Bool) → within_limits (score_of (extended_of f)) ≡ b → longest_score ≤ length m → left (pick b (judged (unfolded_file f) (checked (unfolded_file f))) OverLimit) ≡ length m
+  limited-left : (b : Bool) → within_limits (score_of (extended_of f)) ≡ b → longest_score ≤ length m → left (pick b (judged (unfolded_file f) (checked (unfolded_file f))) (Err OverLimit)) ≡ length m
   unfolding pick room_left
   limited-left true e l = judged-left (checked (unfolded_file f)) (omega (arith, made-short f e))
   limited-left false e l = refl
@@ -196,6 +197,6 @@ module _ (f m : List ℕ) where
   unfolding unfold_answer pick room_left
   room-length = go (leb longest_score (length m)) refl
     where
-      go : (b : Bool) → leb longest_score (length m) ≡ b → left (pick b (answered f (extended_right f)) NoRoom) ≡ length m
+      go : (b : Bool) → leb longest_score (length m) ≡ b → left (pick b (answered f (extended_right f)) (Err NoRoom)) ≡ length m
       go true e = answered-left (extended_right f) (leb-true longest_score (length m) e)
       go false e = refl

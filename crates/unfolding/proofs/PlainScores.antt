@@ -9,6 +9,7 @@ use lib.Dec.{eqb}
 use lib.ListN.{length, length-map, get_or, take, drop, length-append, get_or-map}
 use lib.Seq.{take_at, drop_at}
 use borrow.Author.Tests.{eqb-true, eqb-false}
+use Rattle.std.specs.Prelude.{Ok}
 use Rattle.page.specs.declared.Item.{Item}
 use Rattle.base.specs.Tests.{pick}
 use Rattle.base.specs.Only.{only}
@@ -36,7 +37,6 @@ use Rattle.extended.specs.Folds.{folded_at, folded_from}
 use Rattle.extended.specs.Points.{points_from}
 use Rattle.extended.specs.Right.{item_of, folds_right, extended_right}
 use Rattle.extended.proofs.RightLaws.{right-nests}
-use Rattle.unfolding.specs.declared.Unfolding.TheVariants.{Made}
 use Rattle.unfolding.specs.Messages.{entries_bytes}
 use Rattle.unfolding.specs.Extended.{extended_of, Numbered, numbered_by}
 use Rattle.unfolding.specs.Unfolded.{Unfolded, becomes, within_of as within, unfolded, items, actions, depth, page}
@@ -253,10 +253,10 @@ module _ (p : Piece) (l : Lawful p) where
       })
 
   -- The call grants it: the file's own bytes are made.
-  pub plain-made : (room : ℕ) → longest_score ≤ room → unfold_answer room (plain_file p) ≡ Made (length (encode p))
+  pub plain-made : (room : ℕ) → longest_score ≤ room → unfold_answer room (plain_file p) ≡ Ok (length (encode p))
   plain-made room h =
       let c : checked (unfolded_file (plain_file p)) ≡ fine = rw plain-unfolds (encode-accepted p l).fine in
-      file-made room (plain_file p) h plain-right plain-within c ∙ ap (λ (f : List ℕ). Made (length f)) plain-unfolds
+      file-made room (plain_file p) h plain-right plain-within c ∙ ap (λ (f : List ℕ). Ok (length f)) plain-unfolds
 
 -- Every accepted file, written as an extended score with no loop or curve, unfolds to itself, byte for byte.
 pub accepted-unfolds : (g : List ℕ) → ((i : ℕ) → get_or g i 0 < 256) → Accepted g → unfolded_file (plain_file (decode g)) ≡ g

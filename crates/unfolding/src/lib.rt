@@ -1,17 +1,15 @@
 // Loops and curves unfolded into an ordinary score. The definitions stand in specs/; what runs here says only a reply's numbers.
 #![tactic(auto)]
 
-ghost use Rattle.std.specs.Prelude.{◌≡◌};
-ghost use Rattle.unfolding.specs.declared.Unfolding.TheVariants.{BadFile};
+ghost use Rattle.std.specs.Prelude.{◌≡◌, Err};
+ghost use Rattle.unfolding.specs.declared.UnfoldError.TheVariants.{BadFile};
 ghost use Rattle.unfolding.specs.Replies.{unfold_row};
 
 use contents::{Fault, replied};
 
-// What comes of an extended score that is unfolded.
+// Why an extended score isn't unfolded. What is granted answers how many bytes stand in the room.
 #[derive(Clone, Copy)]
-pub enum Unfolding {
-    // So many bytes stand in the room.
-    Made { size: usize },
+pub enum UnfoldError {
     // The room is too short.
     NoRoom,
     // The contents, or the item at this byte, can't be unfolded.
@@ -20,6 +18,14 @@ pub enum Unfolding {
     OverLimit,
     // The unfolded file is refused.
     BadFile { fault: Fault },
+}
+
+impl From<Fault> for UnfoldError {
+    ghost from_gives = { λ x e. e ≡ BadFile x };
+
+    fn from(fault: Fault) -> UnfoldError {
+        UnfoldError::BadFile { fault }
+    }
 }
 
 // A reply's number, its place, of a file's fault in the unfolded file, and how many bytes were written.
@@ -41,22 +47,24 @@ fn row(number: usize, place: usize, size: usize) -> UnfoldReply
 }
 
 // The row of an unfolded file that is refused.
+#[tactic(auto, unfolding(crate::specs::Replies::unfold_row, contents::specs::Replies::reply_of))]
 fn file_row(fault: Fault) -> UnfoldReply
-    ensures { result ≡ unfold_row (BadFile fault) }
+    ensures { result ≡ unfold_row (Err (BadFile fault)) }
 {
     let r = replied(Err(fault));
     row(r.number, r.place, 0)
 }
 
 // The reply's numbers.
-pub fn replied_unfolding(u: Unfolding) -> UnfoldReply
+#[tactic(auto, unfolding(crate::specs::Replies::unfold_row))]
+pub fn replied_unfolding(u: Result<usize, UnfoldError>) -> UnfoldReply
     ensures { result ≡ unfold_row u }
 {
     match u {
-        Unfolding::Made { size } => row(0, 0, size),
-        Unfolding::NoRoom => row(2, 0, 0),
-        Unfolding::BadExtended { place } => row(17, place, 0),
-        Unfolding::OverLimit => row(18, 0, 0),
-        Unfolding::BadFile { fault } => file_row(fault),
+        Ok(size) => row(0, 0, size),
+        Err(UnfoldError::NoRoom) => row(2, 0, 0),
+        Err(UnfoldError::BadExtended { place }) => row(17, place, 0),
+        Err(UnfoldError::OverLimit) => row(18, 0, 0),
+        Err(UnfoldError::BadFile { fault }) => file_row(fault),
     }
 }

@@ -13,7 +13,7 @@ use Rattle.contents.specs.declared.ItemRule.TheVariants as rule
 use Rattle.session.specs.declared.Refusal.{Refusal}
 use Rattle.session.specs.declared.Refusal.TheVariants.{MemoryShort, RoomShort, File, BadTempo, BadGrace, NoSession, NoEvent, NotAfter, BadMillis, ClockFull}
 use Rattle.text.specs.declared.TextError.TheVariants.{NoRoom, BadText, BadFile}
-use Rattle.unfolding.specs.declared.Unfolding.TheVariants as unfolds
+use Rattle.unfolding.specs.declared.UnfoldError.TheVariants as unfolds
 use Rattle.wording.specs.declared.Row.{Row}
 use Rattle.wording.specs.declared.Row.TheVariants.{Call, Text, Unfold}
 use Rattle.wording.specs.Words.{rule_words, fault_words, refusal_words, transcript_words, extended_words, unfolding_words, done_words, row_words, reply_rows}
@@ -60,12 +60,12 @@ row_at (Text (Ok n)) = 0
 row_at (Text (Err NoRoom)) = 3
 row_at (Text (Err (BadText l c))) = 18
 row_at (Text (Err (BadFile x))) = fault_row_at x
-row_at (Unfold (unfolds.Made n)) = 0
-row_at (Unfold unfolds.NoRoom) = 3
-row_at (Unfold (unfolds.BadExtended zero)) = 19
-row_at (Unfold (unfolds.BadExtended (suc place))) = 20
-row_at (Unfold unfolds.OverLimit) = 21
-row_at (Unfold (unfolds.BadFile x)) = fault_row_at x
+row_at (Unfold (Ok n)) = 0
+row_at (Unfold (Err unfolds.NoRoom)) = 3
+row_at (Unfold (Err (unfolds.BadExtended zero))) = 19
+row_at (Unfold (Err (unfolds.BadExtended (suc place)))) = 20
+row_at (Unfold (Err unfolds.OverLimit)) = 21
+row_at (Unfold (Err (unfolds.BadFile x))) = fault_row_at x
 
 -- ---- looked up
 
@@ -121,12 +121,12 @@ words-found (Text (Ok n)) = refl
 words-found (Text (Err NoRoom)) = refl
 words-found (Text (Err (BadText l c))) = refl
 words-found (Text (Err (BadFile x))) = fault-found x
-words-found (Unfold (unfolds.Made n)) = refl
-words-found (Unfold unfolds.NoRoom) = refl
-words-found (Unfold (unfolds.BadExtended zero)) = refl
-words-found (Unfold (unfolds.BadExtended (suc place))) = refl
-words-found (Unfold unfolds.OverLimit) = refl
-words-found (Unfold (unfolds.BadFile x)) = fault-found x
+words-found (Unfold (Ok n)) = refl
+words-found (Unfold (Err unfolds.NoRoom)) = refl
+words-found (Unfold (Err (unfolds.BadExtended zero))) = refl
+words-found (Unfold (Err (unfolds.BadExtended (suc place)))) = refl
+words-found (Unfold (Err unfolds.OverLimit)) = refl
+words-found (Unfold (Err (unfolds.BadFile x))) = fault-found x
 
 pub words-apart : (x y : Row) → row_words x ≡ row_words y → row_at x ≡ row_at y
 words-apart x y e = sym (words-found x) ∙ ap looked_up e ∙ words-found y

@@ -16,7 +16,7 @@ use Rattle.session.specs.declared.Refusal.{Refusal}
 use Rattle.session.specs.declared.Refusal.TheVariants.{MemoryShort, RoomShort, File, BadTempo, BadGrace, NoSession, NoEvent, NotAfter, BadMillis, ClockFull}
 use Rattle.text.specs.declared.TextError.TheVariants.{NoRoom, BadText, BadFile}
 use Rattle.text.specs.Replies.{transcript_row}
-use Rattle.unfolding.specs.declared.Unfolding.TheVariants as unfolds
+use Rattle.unfolding.specs.declared.UnfoldError.TheVariants as unfolds
 use Rattle.unfolding.specs.Replies.{unfold_row}
 use Rattle.wording.specs.declared.Row.{Row}
 use Rattle.wording.specs.declared.Row.TheVariants.{Call, Text, Unfold}
@@ -67,7 +67,7 @@ unfolding listed_row row_at refusal_row_at fault_row_at all_rows reply_rows row_
 file-listed x = let l = fault-listed x in record { within = l.within; number = l.number; words = l.words }
 
 -- and so is an unfolded one
-unfolded-listed : (x : Fault) → Listed (Unfold (unfolds.BadFile x))
+unfolded-listed : (x : Fault) → Listed (Unfold (Err (unfolds.BadFile x)))
 unfolding listed_row row_at refusal_row_at fault_row_at all_rows reply_rows row_number refusal_row transcript_row unfold_row fault_row row_words refusal_words transcript_words extended_words unfolding_words fault_words
 unfolded-listed x = let l = fault-listed x in record { within = l.within; number = l.number; words = l.words }
 
@@ -91,12 +91,12 @@ every-row (Text (Ok n)) = record { within = omega arith; number = refl; words = 
 every-row (Text (Err NoRoom)) = record { within = omega arith; number = refl; words = refl }
 every-row (Text (Err (BadText l c))) = record { within = omega arith; number = refl; words = refl }
 every-row (Text (Err (BadFile x))) = file-listed x
-every-row (Unfold (unfolds.Made n)) = record { within = omega arith; number = refl; words = refl }
-every-row (Unfold unfolds.NoRoom) = record { within = omega arith; number = refl; words = refl }
-every-row (Unfold (unfolds.BadExtended zero)) = record { within = omega arith; number = refl; words = refl }
-every-row (Unfold (unfolds.BadExtended (suc place))) = record { within = omega arith; number = refl; words = refl }
-every-row (Unfold unfolds.OverLimit) = record { within = omega arith; number = refl; words = refl }
-every-row (Unfold (unfolds.BadFile x)) = unfolded-listed x
+every-row (Unfold (Ok n)) = record { within = omega arith; number = refl; words = refl }
+every-row (Unfold (Err unfolds.NoRoom)) = record { within = omega arith; number = refl; words = refl }
+every-row (Unfold (Err (unfolds.BadExtended zero))) = record { within = omega arith; number = refl; words = refl }
+every-row (Unfold (Err (unfolds.BadExtended (suc place)))) = record { within = omega arith; number = refl; words = refl }
+every-row (Unfold (Err unfolds.OverLimit)) = record { within = omega arith; number = refl; words = refl }
+every-row (Unfold (Err (unfolds.BadFile x))) = unfolded-listed x
 
 -- ---- the numbers
 

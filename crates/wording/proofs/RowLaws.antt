@@ -21,7 +21,7 @@ use Rattle.session.specs.Replies.{refusal_row}
 use Rattle.text.specs.declared.TextError.{TextError}
 use Rattle.text.specs.declared.TextReply.{TextReply}
 use Rattle.text.specs.Replies.{transcript_row}
-use Rattle.unfolding.specs.declared.Unfolding.{Unfolding}
+use Rattle.unfolding.specs.declared.UnfoldError.{UnfoldError}
 use Rattle.unfolding.specs.declared.UnfoldReply.{UnfoldReply}
 use Rattle.unfolding.specs.Replies.{unfold_row}
 use Rattle.wording.specs.declared.Row.{Row}
@@ -48,7 +48,7 @@ module _ (x : Row) where
   unfolding row_number
   number-text t r e p = rw (e, p)
 
-  pub number-unfold : (u : Unfolding) (r : UnfoldReply) → x ≡ Unfold u → r ≡ unfold_row u → r.number ≡ row_number x
+  pub number-unfold : (u : Result ℕ UnfoldError) (r : UnfoldReply) → x ≡ Unfold u → r ≡ unfold_row u → r.number ≡ row_number x
   unfolding row_number
   number-unfold u r e p = rw (e, p)
 
@@ -61,7 +61,7 @@ module _ (x : Row) where
     unfolding row_words
     words-text t e l = rw e l
 
-    pub words-unfold : (u : Unfolding) → x ≡ Unfold u → Laid o at (unfolding_words u) m r → Laid o at (row_words x) m r
+    pub words-unfold : (u : Result ℕ UnfoldError) → x ≡ Unfold u → Laid o at (unfolding_words u) m r → Laid o at (row_words x) m r
     unfolding row_words
     words-unfold u e l = rw e l
 

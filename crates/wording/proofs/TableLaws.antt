@@ -18,8 +18,8 @@ use Rattle.session.specs.declared.Refusal.{Refusal}
 use Rattle.session.specs.declared.Refusal.TheVariants.{MemoryShort, RoomShort, File, BadTempo, BadGrace, NoSession, NoEvent, NotAfter, BadMillis, ClockFull}
 use Rattle.text.specs.declared.TextError.{TextError}
 use Rattle.text.specs.declared.TextError.TheVariants.{NoRoom, BadText, BadFile}
-use Rattle.unfolding.specs.declared.Unfolding.{Unfolding}
-use Rattle.unfolding.specs.declared.Unfolding.TheVariants as unfolds
+use Rattle.unfolding.specs.declared.UnfoldError.{UnfoldError}
+use Rattle.unfolding.specs.declared.UnfoldError.TheVariants as unfolds
 use Rattle.wording.specs.Words.{rule_words, fault_words, refusal_words, transcript_words, extended_words, unfolding_words, done_words, most_words, fault_placed, placed}
 
 -- ---- how many bytes the words have
@@ -113,24 +113,24 @@ module _ (o m : List ℕ) (at r : ℕ) where
   extended-item zero n laid = absurd (n refl)
   extended-item (suc place) n laid = laid
 
-  module _ (u : Unfolding) where
-    pub unfold-done : (n : ℕ) → u ≡ unfolds.Made n → Laid o at done_words m r → Laid o at (unfolding_words u) m r
+  module _ (u : Result ℕ UnfoldError) where
+    pub unfold-done : (n : ℕ) → u ≡ Ok n → Laid o at done_words m r → Laid o at (unfolding_words u) m r
     unfolding unfolding_words
     unfold-done n e laid = rw e laid
 
-    pub unfold-room : u ≡ unfolds.NoRoom → Laid o at (transcript_words (Err NoRoom)) m r → Laid o at (unfolding_words u) m r
+    pub unfold-room : u ≡ Err unfolds.NoRoom → Laid o at (transcript_words (Err NoRoom)) m r → Laid o at (unfolding_words u) m r
     unfolding unfolding_words
     unfold-room e laid = rw e laid
 
-    pub unfold-extended : (place : ℕ) → u ≡ unfolds.BadExtended place → Laid o at (extended_words place) m r → Laid o at (unfolding_words u) m r
+    pub unfold-extended : (place : ℕ) → u ≡ Err (unfolds.BadExtended place) → Laid o at (extended_words place) m r → Laid o at (unfolding_words u) m r
     unfolding unfolding_words
     unfold-extended place e laid = rw e laid
 
-    pub unfold-limit : u ≡ unfolds.OverLimit → Laid o at (bytes_of "the unfolded score would break a limit") m r → Laid o at (unfolding_words u) m r
+    pub unfold-limit : u ≡ Err unfolds.OverLimit → Laid o at (bytes_of "the unfolded score would break a limit") m r → Laid o at (unfolding_words u) m r
     unfolding unfolding_words
     unfold-limit e laid = rw e laid
 
-    pub unfold-file : (x : Fault) → u ≡ unfolds.BadFile x → Laid o at (fault_words x) m r → Laid o at (unfolding_words u) m r
+    pub unfold-file : (x : Fault) → u ≡ Err (unfolds.BadFile x) → Laid o at (fault_words x) m r → Laid o at (unfolding_words u) m r
     unfolding unfolding_words
     unfold-file x e laid = rw e laid
 

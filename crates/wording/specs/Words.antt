@@ -12,8 +12,8 @@ use Rattle.session.specs.Replies.{refusal_row}
 use Rattle.text.specs.declared.TextError.{TextError}
 use Rattle.text.specs.declared.TextError.TheVariants.{NoRoom, BadText, BadFile}
 use Rattle.text.specs.Replies.{transcript_row}
-use Rattle.unfolding.specs.declared.Unfolding.{Unfolding}
-use Rattle.unfolding.specs.declared.Unfolding.TheVariants as unfolds
+use Rattle.unfolding.specs.declared.UnfoldError.{UnfoldError}
+use Rattle.unfolding.specs.declared.UnfoldError.TheVariants as unfolds
 use Rattle.unfolding.specs.Replies.{unfold_row}
 use Rattle.wording.specs.declared.Row.{Row}
 use Rattle.wording.specs.declared.Row.TheVariants.{Call, Text, Unfold}
@@ -75,12 +75,12 @@ extended_words zero = bytes_of "bad extended contents; also points left over"
 extended_words (suc place) = bytes_of "an item that can't be unfolded"
 
 -- What comes of an extended score that is unfolded. "2 for a file room as in (i)", "18 (place 0) when the unfolded file would break a limit"
-unfoldable pub unfolding_words : Unfolding → List ℕ
-unfolding_words (unfolds.Made n) = done_words
-unfolding_words unfolds.NoRoom = transcript_words (Err NoRoom)
-unfolding_words (unfolds.BadExtended place) = extended_words place
-unfolding_words unfolds.OverLimit = bytes_of "the unfolded score would break a limit"
-unfolding_words (unfolds.BadFile x) = fault_words x
+unfoldable pub unfolding_words : Result ℕ UnfoldError → List ℕ
+unfolding_words (Ok n) = done_words
+unfolding_words (Err unfolds.NoRoom) = transcript_words (Err NoRoom)
+unfolding_words (Err (unfolds.BadExtended place)) = extended_words place
+unfolding_words (Err unfolds.OverLimit) = bytes_of "the unfolded score would break a limit"
+unfolding_words (Err (unfolds.BadFile x)) = fault_words x
 
 -- The longest of them are those of an item's event.
 abbrev pub most_words : ℕ
@@ -142,9 +142,9 @@ reply_rows =
     ∷ Call ClockFull
     ∷ Call (File NoMessage)
     ∷ Text (Err (BadText 1 1))
-    ∷ Unfold (unfolds.BadExtended 0)
-    ∷ Unfold (unfolds.BadExtended 40)
-    ∷ Unfold unfolds.OverLimit
+    ∷ Unfold (Err (unfolds.BadExtended 0))
+    ∷ Unfold (Err (unfolds.BadExtended 40))
+    ∷ Unfold (Err unfolds.OverLimit)
     ∷ Call BadGrace
     ∷ Call (File (BadItem rule.Kind 36))
     ∷ Call (File (BadItem rule.Synchrony 36))

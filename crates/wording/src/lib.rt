@@ -6,7 +6,7 @@ pub use replies::reply_lines;
 use session::Refusal;
 pub use table::{placed, put_text_words, put_unfold_words, put_words};
 use text::TextError;
-use unfolding::Unfolding;
+use unfolding::UnfoldError;
 
 mod figures;
 mod replies;
@@ -17,5 +17,5 @@ mod table;
 pub enum Row {
     Call(Refusal),
     Text(Result<usize, TextError>),
-    Unfold(Unfolding),
+    Unfold(Result<usize, UnfoldError>),
 }

@@ -10,7 +10,7 @@ use ascii::{NEWLINE, SPACE, put_byte, put_bytes};
 use contents::{Fault, ItemRule};
 use session::{Refusal, refusal_row};
 use text::{TextError, replied_text};
-use unfolding::{Unfolding, replied_unfolding};
+use unfolding::{UnfoldError, replied_unfolding};
 
 const ROWS: usize = 30;
 
@@ -37,9 +37,9 @@ fn row_at(i: usize) -> Row
         15 => Row::Call(Refusal::ClockFull),
         16 => Row::Call(Refusal::File(Fault::NoMessage)),
         17 => Row::Text(Err(TextError::BadText { line: 1, column: 1 })),
-        18 => Row::Unfold(Unfolding::BadExtended { place: 0 }),
-        19 => Row::Unfold(Unfolding::BadExtended { place: 40 }),
-        20 => Row::Unfold(Unfolding::OverLimit),
+        18 => Row::Unfold(Err(UnfoldError::BadExtended { place: 0 })),
+        19 => Row::Unfold(Err(UnfoldError::BadExtended { place: 40 })),
+        20 => Row::Unfold(Err(UnfoldError::OverLimit)),
         21 => Row::Call(Refusal::BadGrace),
         22 => Row::Call(Refusal::File(Fault::BadItem(ItemRule::Kind, 36))),
         23 => Row::Call(Refusal::File(Fault::BadItem(ItemRule::Synchrony, 36))),

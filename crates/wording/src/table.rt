@@ -7,7 +7,7 @@ use ascii::put_bytes;
 use contents::{Fault, ItemRule};
 use session::Refusal;
 use text::TextError;
-use unfolding::Unfolding;
+use unfolding::UnfoldError;
 
 // The words of an item's rule behind the first `at` bytes. Answers where the next byte goes.
 fn put_rule_words(out: &mut [u8], at: usize, r: ItemRule) -> usize
@@ -121,16 +121,16 @@ fn put_extended_words(out: &mut [u8], at: usize, place: usize) -> usize
 }
 
 // The same for what comes of an extended score.
-pub fn put_unfold_words(out: &mut [u8], at: usize, u: Unfolding) -> usize
+pub fn put_unfold_words(out: &mut [u8], at: usize, u: Result<usize, UnfoldError>) -> usize
     requires { at + most_words ≤ length out.old }
     ensures { Laid out.old at (unfolding_words u) out.new result × (result ≤ at + most_words) }
 {
     match u {
-        Unfolding::Made { size: _ } => put_bytes(out, at, b"done"),
-        Unfolding::NoRoom => put_text_words(out, at, Err(TextError::NoRoom)),
-        Unfolding::BadExtended { place } => put_extended_words(out, at, place),
-        Unfolding::OverLimit => put_bytes(out, at, b"the unfolded score would break a limit"),
-        Unfolding::BadFile { fault } => put_fault_words(out, at, fault),
+        Ok(_) => put_bytes(out, at, b"done"),
+        Err(UnfoldError::NoRoom) => put_text_words(out, at, Err(TextError::NoRoom)),
+        Err(UnfoldError::BadExtended { place }) => put_extended_words(out, at, place),
+        Err(UnfoldError::OverLimit) => put_bytes(out, at, b"the unfolded score would break a limit"),
+        Err(UnfoldError::BadFile { fault }) => put_fault_words(out, at, fault),
     }
 }
 
