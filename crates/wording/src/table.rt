@@ -129,7 +129,11 @@ pub fn put_unfold_words(out: &mut [u8], at: usize, u: Result<usize, UnfoldError>
         Ok(_) => put_bytes(out, at, b"done"),
         Err(UnfoldError::NoRoom) => put_text_words(out, at, Err(TextError::NoRoom)),
         Err(UnfoldError::BadExtended { place }) => put_extended_words(out, at, place),
-        Err(UnfoldError::OverLimit) => put_bytes(out, at, b"the unfolded score would break a limit"),
+        Err(UnfoldError::OverLimit) => put_bytes(
+            out,
+            at,
+            b"the unfolded score would break a limit",
+        ),
         Err(UnfoldError::BadFile { fault }) => put_fault_words(out, at, fault),
     }
 }
