@@ -7,9 +7,9 @@ ghost use Rattle.score.specs.Encode.{duration_bytes};
 ghost use Rattle.extended.specs.Layout.{events_start};
 ghost use Rattle.unfolder.specs.Inner.{Answers, Settles, Built};
 
+use contents::Counts;
 use contents::bytes::read32;
 use contents::limits::{EVENT_SIZE, LONGEST_SCORE};
-use contents::Counts;
 use extended::layout::EXTENDED_CONTENTS;
 use filing::{join, put32, settle_file};
 use unfolding::UnfoldError;
