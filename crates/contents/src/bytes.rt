@@ -2,17 +2,11 @@
 ghost use Rattle.std.specs.Prelude.{◌≡◌, ◌+◌, ◌≤◌, ◌<◌, length};
 ghost use Rattle.contents.specs.Bytes.{byte_at, u16_at, u32_at};
 
-fn wide(x: u8) -> usize
-    ensures { (result ≡ x) × (result < 256) }
-{
-    x as usize
-}
-
 pub fn byte(file: &[u8], at: usize) -> usize
     requires { at < length file.now }
     ensures { (result ≡ byte_at file.now at) × (result < 256) }
 {
-    wide(file[at])
+    usize::from(file[at])
 }
 
 pub fn read16(file: &[u8], at: usize) -> usize

@@ -1,49 +1,47 @@
--- One step of the check of a label's bytes and of the check of the messages, in the code's own terms.
+-- The check of a label's bytes, and one step of the check of the messages, in the code's own terms.
 -- Assumes nothing.
 use mathlib.Core.Path.{◌≡◌, refl, sym, ◌∙◌}
 use mathlib.Core.Bool.{Bool, true, false, not}
 use mathlib.Core.List.{List, [], ◌∷◌}
 use Prim.Native.Nat.{ℕ, zero, suc, ◌+◌, ◌-◌, ◌<◌, ◌≤◌}
 use native.Mathlib.Omega.{arith}
-use lib.ListN.{length}
+use lib.ListN.{take, drop}
 use lib.Dec.{leb, eqb}
 use borrow.Author.Tests.{eq-eqb, ne_eqb}
 use borrow.Author.Rules.{rules}
-use Rattle.std.specs.Prelude.{Ok, Err}
+use Rattle.std.specs.Prelude.{◌&&◌, Ok, Err}
+use Rattle.std.specs.List.{list_all}
 use Rattle.base.specs.Tests.{every, between}
 use Rattle.base.specs.Checks.{Check, need, first_fault}
-use Rattle.base.proofs.TestLaws.{every-pass, every-stop, every-last, told-true, told-false, tests}
+use Rattle.base.proofs.TestLaws.{every-pass, every-stop, tests}
 use Rattle.contents.specs.declared.Fault.{Fault}
 use Rattle.contents.specs.declared.Fault.TheVariants.{BadMessage, TextLeft}
 use Rattle.contents.specs.declared.Counts.{Counts}
 use Rattle.contents.specs.Limits.{message_size, longest_label}
-use Rattle.contents.specs.Bytes.{byte_at, u16_at, part}
+use Rattle.contents.specs.Bytes.{u16_at, part}
 use Rattle.contents.specs.Contents.{text_at}
 use Rattle.contents.specs.Replies.{verdict_of}
 use Rattle.messages.specs.Messages.{label_byte, readable, message_right, messages_right}
 use Rattle.contents.proofs.Verdicts.{verdict-stop, check-next}
-use Rattle.contents.proofs.PartLaws.{part_none, part-more}
 use Rattle.messages.proofs.Entries.{entry-right}
 
 -- ---- the bytes of a label
 
-module _ (f : List ℕ) (at count : ℕ) (W : Bool) where
-  pub readable-none : count ≤ 0 → readable (part f at count) ≡ W → true ≡ W
-  unfolding readable
-  readable-none p q = rw (part_none f at count p) at q
+both : (b r : Bool) → (b && r) ≡ every (b ∷ r ∷ [])
+unfolding every
+both true true = refl
+both true false = refl
+both false r = refl
 
-  readable-more : 0 < count → at + count ≤ length f → readable (part f at count) ≡ every (label_byte (byte_at f at) ∷ readable (part f (at + 1) (count - 1)) ∷ [])
-  unfolding readable
-  readable-more p l = rw (part-more f at count p l)
+pub readable-all : (bs : List ℕ) → list_all label_byte bs ≡ readable bs
+unfolding readable
+readable-all [] = refl
+readable-all (b ∷ bs) = rw (readable-all bs) (both (label_byte b) (readable bs))
 
-  module _ (t : Bool) (some : 0 < count) (fits : at + count ≤ length f) (told : t ≡ label_byte (byte_at f at)) where
-    pub readable-bad : not t ≡ true → readable (part f at count) ≡ W → false ≡ W
-    readable-bad p q = every-stop (label_byte (byte_at f at)) _ (told-false t _ told p) ∙ sym (readable-more some fits) ∙ q
-
-    pub readable-step : not t ≡ false → readable (part f at count) ≡ W → readable (part f (at + 1) (count - 1)) ≡ W
-    readable-step p q = every-pass (label_byte (byte_at f at)) _ _ (told-true t _ told p) (every-last _ _ refl) ∙ sym (readable-more some fits) ∙ q
-
-pub ruleset labels = (readable-none, readable-bad, readable-step, rules)
+-- the bytes between two places are those of the part from the first on
+pub label-read : (f : List ℕ) (at size : ℕ) (r : Bool) → r ≡ list_all label_byte (take (at + size - at) (drop at f)) → r ≡ readable (part f at size)
+unfolding part
+label-read f at size r e = let z : at + size - at ≡ size = omega arith in rw z at (e ∙ readable-all (take (at + size - at) (drop at f)))
 
 -- ---- the entries
 
@@ -72,17 +70,17 @@ module _ (f : List ℕ) (c : Counts) (at count from : ℕ) (W : Check Fault) whe
   messages-used p h q = rw (← q, messages-none f c at count from p, eq-eqb from c.text h)
 
   module _ (t : Bool) (some : 0 < count) (e : t ≡ message_right f c at from) where
-    pub messages-bad : not t ≡ true → messages_right f c at count from ≡ W → Err (BadMessage at) ≡ verdict_of W
-    messages-bad h q = rw (← q, messages-more f c at count from some) (verdict-stop _ _ _ (told-false t _ e h))
+    pub messages-bad : t ≡ false → messages_right f c at count from ≡ W → Err (BadMessage at) ≡ verdict_of W
+    messages-bad h q = rw (← q, messages-more f c at count from some) (verdict-stop _ _ _ (sym e ∙ h))
 
-    pub messages-step : (n : ℕ) → not t ≡ false → n ≡ u16_at f (at + 2) → messages_right f c at count from ≡ W
-        → messages_right f c (at + message_size) (count - 1) (from + n) ≡ W
-    messages-step n h en q =
-        rw en (sym (messages-more f c at count from some ∙ check-next _ (BadMessage at) _ (told-true t _ e h)) ∙ q)
+    pub messages-step : (n next left : ℕ) → t ≡ true → n ≡ u16_at f (at + 2) → next ≡ at + message_size → left ≡ count - 1 → messages_right f c at count from ≡ W
+        → messages_right f c next left (from + n) ≡ W
+    messages-step n next left h en a l q =
+        rw (en, a, l) (sym (messages-more f c at count from some ∙ check-next _ (BadMessage at) _ (sym e ∙ h)) ∙ q)
 
 -- a right message ends within the text
-pub message-fits : (f : List ℕ) (c : Counts) (at from n : ℕ) (t : Bool) → t ≡ message_right f c at from → not t ≡ false → n ≡ u16_at f (at + 2) → from + n ≤ c.text
-message-fits f c at from n t e h en = rw en (entry-right f c at from (told-true t _ e h)).fits
+pub message-fits : (f : List ℕ) (c : Counts) (at from n : ℕ) (t : Bool) → t ≡ message_right f c at from → t ≡ true → n ≡ u16_at f (at + 2) → from + n ≤ c.text
+message-fits f c at from n t e h en = rw en (entry-right f c at from (sym e ∙ h)).fits
 
 pub ruleset messages = (messages-here, messages-unused, messages-used, messages-bad, messages-step, message-fits, rules)
 

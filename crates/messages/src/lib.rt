@@ -2,6 +2,7 @@
 #![tactic(auto)]
 
 ghost use Rattle.std.specs.Prelude.{◌≡◌, ◌+◌, ◌≤◌, ◌<◌, length};
+ghost use Rattle.std.specs.List.{list_all};
 ghost use Rattle.contents.specs.Limits.{message_size};
 ghost use Rattle.contents.specs.Bytes.{part};
 ghost use Rattle.contents.specs.Replies.{verdict_of};
@@ -25,21 +26,11 @@ fn label_byte(b: u8) -> bool
     }
 }
 
-// Whether the `count` bytes from `at` on are label bytes.
-fn label_bytes(file: &[u8], at: usize, count: usize) -> bool
-    requires { at + count ≤ length file.now }
-    ensures { result ≡ readable (part file.now at count) }
+// Whether all of these are label bytes.
+fn label_bytes(bytes: &[u8]) -> bool
+    ensures { result ≡ list_all label_byte bytes.now }
 {
-    let mut i = at;
-    let mut left = count;
-    while 0 < left {
-        if !label_byte(file[i]) {
-            return false;
-        }
-        i += 1;
-        left -= 1;
-    }
-    true
+    bytes.iter().all(|&b| label_byte(b))
 }
 
 // The message entry at the byte `at`, which is to start where the one before ends, at `from`.
@@ -61,23 +52,23 @@ fn message_right(file: &[u8], c: Counts, at: usize, from: usize) -> bool
     if c.text < from + size {
         return false;
     }
-    label_bytes(file, text_at(c) + from, size)
+    let start = text_at(c) + from;
+    let end = start + size;
+    label_bytes(&file[start..end])
 }
 
 pub fn check_messages(file: &[u8], c: Counts) -> Result<(), Fault>
     requires { Sized c (length file.now) }
     ensures { result ≡ verdict_of (messages_right file.now c (messages_at c) c.messages 0) }
 {
-    let mut i = messages_at(c);
-    let mut left = c.messages;
+    let first = messages_at(c);
     let mut from = 0;
-    while 0 < left {
-        if !message_right(file, c, i, from) {
-            return Err(Fault::BadMessage(i));
+    for k in 0..c.messages {
+        let at = first + MESSAGE_SIZE * k;
+        if !message_right(file, c, at, from) {
+            return Err(Fault::BadMessage(at));
         }
-        from += read16(file, i + 2);
-        i += MESSAGE_SIZE;
-        left -= 1;
+        from += read16(file, at + 2);
     }
     if from != c.text {
         return Err(Fault::TextLeft);

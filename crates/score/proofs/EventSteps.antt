@@ -1,6 +1,7 @@
 -- One step of the check of the events, in the code's own terms.
 -- Assumes nothing.
 use mathlib.Core.Path.{◌≡◌, sym, ◌∙◌}
+use mathlib.Core.Logic.{◌⊎◌, inl, inr}
 use mathlib.Core.List.{List, [], ◌∷◌}
 use Prim.Native.Nat.{ℕ, ◌+◌, ◌-◌, ◌<◌, ◌≤◌}
 use borrow.Author.Rules.{rules}
@@ -31,13 +32,17 @@ module _ (f : List ℕ) (at count : ℕ) (W : Check Fault) where
   more p = rw (durations-more f at count p)
 
   module _ (d : ℕ) (some : 0 < count) (e : d ≡ u32_at f at) where
-    pub events-under : d < 1 → found f at count ≡ W → Err (BadEvent at) ≡ verdict_of W
+    events-under : d < 1 → found f at count ≡ W → Err (BadEvent at) ≡ verdict_of W
     events-under p q = rw (← q, more some) (verdict-stop _ _ _ (rw (← e) (between-under 1 longest d p)))
 
-    pub events-over : longest < d → found f at count ≡ W → Err (BadEvent at) ≡ verdict_of W
+    events-over : longest < d → found f at count ≡ W → Err (BadEvent at) ≡ verdict_of W
     events-over p q = rw (← q, more some) (verdict-stop _ _ _ (rw (← e) (between-over 1 longest d p)))
 
-    pub events-step : 1 ≤ d → d ≤ longest → found f at count ≡ W → found f (at + event_size) (count - 1) ≡ W
-    events-step lo hi q = sym (more some ∙ check-next _ (BadEvent at) _ (rw (← e) (between_in 1 longest d lo hi))) ∙ q
+    pub events-out : (d < 1) ⊎ ((1 ≤ d) × (longest < d)) → found f at count ≡ W → Err (BadEvent at) ≡ verdict_of W
+    events-out (inl p) q = events-under p q
+    events-out (inr p) q = events-over p.1 q
 
-pub ruleset events = (events-none, events-under, events-over, events-step, rules)
+    pub events-step : (next left : ℕ) → 1 ≤ d → d ≤ longest → next ≡ at + event_size → left ≡ count - 1 → found f at count ≡ W → found f next left ≡ W
+    events-step next left lo hi a l q = rw (a, l) (sym (more some ∙ check-next _ (BadEvent at) _ (rw (← e) (between_in 1 longest d lo hi))) ∙ q)
+
+pub ruleset events = (events-none, events-out, events-step, rules)

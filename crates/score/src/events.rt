@@ -13,18 +13,12 @@ pub fn check_events(file: &[u8], c: Counts) -> Result<(), Fault>
     requires { Sized c (length file.now) }
     ensures { result ≡ verdict_of (events_right events_at (durations_at file.now events_at c.events)) }
 {
-    let mut i = CONTENTS_SIZE;
-    let mut left = c.events;
-    while 0 < left {
-        let d = read32(file, i);
-        if d < 1 {
-            return Err(Fault::BadEvent(i));
+    for k in 0..c.events {
+        let at = CONTENTS_SIZE + EVENT_SIZE * k;
+        let d = read32(file, at);
+        if d < 1 || LONGEST < d {
+            return Err(Fault::BadEvent(at));
         }
-        if LONGEST < d {
-            return Err(Fault::BadEvent(i));
-        }
-        i += EVENT_SIZE;
-        left -= 1;
     }
     Ok(())
 }

@@ -1,7 +1,7 @@
 // The score file: whether one is right and where the first fault is, what it says, and the labels of its messages.
 #![tactic(auto)]
 
-ghost use Rattle.std.specs.Prelude.{◌≡◌, ◌≤◌, ◌<◌};
+ghost use Rattle.std.specs.Prelude.{◌≡◌, ◌+◌, ◌≤◌, ◌<◌, length};
 ghost use Rattle.contents.specs.Limits.{most_events, most_items, most_messages};
 ghost use Rattle.contents.specs.Replies.{verdict_of};
 ghost use Rattle.contents.specs.Contents.{counts_of};
@@ -14,7 +14,7 @@ use contents::bytes::read32;
 use contents::limits::{CONTENTS_SIZE, EVENT_SIZE, ITEM_SIZE};
 use contents::{Fault, check_counts, check_layout, items_at, read_counts};
 use items::item_at;
-use look_up::{accepted_span, label_span};
+use look_up::{Span, accepted_span, label_span};
 use page::Item;
 use units::Grains;
 
@@ -47,14 +47,20 @@ pub fn label_reply(file: &[u8], n: u64) -> Result<(), Fault>
     Ok(())
 }
 
+// The bytes of a span, in the caller's file.
+fn spanned(file: &[u8], s: Span) -> &[u8]
+    requires { s.start + s.size ≤ length file.now }
+    ensures { Part file.entry result s }
+{
+    let end = s.start + s.size;
+    &file[s.start..end]
+}
+
 // The text look-up's part: the label's own bytes in the caller's file, never a copy.
 pub fn label(file: &[u8], n: u64) -> &[u8]
     ensures { Part file.entry result (label_span file.now n) }
 {
-    let s = label_span(file, n);
-    let start = s.start;
-    let end = start + s.size;
-    &file[start..end]
+    spanned(file, label_span(file, n))
 }
 
 // The same part of a file that is known to be accepted, without a check of it.
@@ -62,10 +68,7 @@ pub fn accepted_label(file: &[u8], n: u64) -> &[u8]
     requires { Accepted file.now }
     ensures { Part file.entry result (label_span file.now n) }
 {
-    let s = accepted_span(file, n);
-    let start = s.start;
-    let end = start + s.size;
-    &file[start..end]
+    spanned(file, accepted_span(file, n))
 }
 
 // How many events, items and messages an accepted file has.

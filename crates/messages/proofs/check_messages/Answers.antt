@@ -1,38 +1,18 @@
-use Rattle.messages.proofs.MessageSteps.{messages}
+use native.Mathlib.Omega.{arith}
+use Rattle.messages.proofs.MessageSteps.{messages, messages-step, message-fits}
 use Rattle.messages.proofs.check_messages.Goals as goal
 
-pub messages_at-i-requires : goal.messages_at-i-requires
-messages_at-i-requires c = search messages
-
-pub loop-left-init : goal.loop-left-init
-loop-left-init c = search messages
-
-pub message_right-requires : goal.message_right-requires
-message_right-requires c = search messages
+pub loop-k-init : goal.loop-k-init
+loop-k-init c = search messages
 
 pub returns-then-not-message_right : goal.returns-then-not-message_right
 returns-then-not-message_right c = search messages
 
-pub overflow_add-i : goal.overflow_add-i
-overflow_add-i c = search messages
-
-pub read16-from-requires : goal.read16-from-requires
-read16-from-requires c = search messages
-
-pub overflow_add-from : goal.overflow_add-from
-overflow_add-from c = search messages
-
-pub overflow_add-i-in-loop-left : goal.overflow_add-i-in-loop-left
-overflow_add-i-in-loop-left c = search messages
-
-pub overflow_sub-left : goal.overflow_sub-left
-overflow_sub-left c = search messages
-
-pub loop-left-smaller : goal.loop-left-smaller
-loop-left-smaller c = search messages
-
-pub loop-left-preserved : goal.loop-left-preserved
-loop-left-preserved c = search messages
+pub loop-k-preserved : goal.loop-k-preserved
+loop-k-preserved c = record {
+  within = message-fits _ _ _ _ _ _ c.message_right.ensures c.if-not-message_right.false c.read16-from.ensures.0;
+  same = messages-step _ _ _ _ _ _ _ (omega arith) c.message_right.ensures _ _ _ c.if-not-message_right.false c.read16-from.ensures.0 (omega arith) (omega arith) c.loop-k.invariant.same
+}
 
 pub returns-then-from-c : goal.returns-then-from-c
 returns-then-from-c c = search messages
