@@ -13,12 +13,12 @@ pub fn read16(file: &[u8], at: usize) -> usize
     requires { at + 2 ≤ length file.now }
     ensures { (result ≡ u16_at file.now at) × (result < 65536) }
 {
-    byte(file, at) + 256 * byte(file, at + 1)
+    usize::from(u16::from_le_bytes([file[at], file[at + 1]]))
 }
 
 pub fn read32(file: &[u8], at: usize) -> usize
     requires { at + 4 ≤ length file.now }
     ensures { (result ≡ u32_at file.now at) × (result < 4294967296) }
 {
-    read16(file, at) + 65536 * read16(file, at + 2)
+    u32::from_le_bytes([file[at], file[at + 1], file[at + 2], file[at + 3]]) as usize
 }

@@ -1,24 +1,11 @@
--- The two halves are each below 65,536, so their sum fits and is the number by definition.
+-- The number of four bytes is the definition's sum.
 -- Assumes nothing.
-use borrow.Author.Rules.{rules}
-use Rattle.contents.specs.Bytes.{u32_at}
+use mathlib.Core.Path.{◌≡◌}
+use Prim.Native.Nat.{◌+◌}
+use native.Mathlib.Omega.{arith}
+use Rattle.contents.specs.Bytes.{u16_at, u32_at}
 use Rattle.contents.proofs.bytes.read32.Goals as goal
 
-pub read16-requires : goal.read16-requires
-read16-requires c = search rules
-
-pub overflow_add-at : goal.overflow_add-at
-overflow_add-at c = search rules
-
-pub read16-requires-2 : goal.read16-requires-2
-read16-requires-2 c = search rules
-
-pub overflow_mul-result : goal.overflow_mul-result
-overflow_mul-result c = search rules
-
-pub overflow_add-result : goal.overflow_add-result
-overflow_add-result c = search rules
-
 pub returns : goal.returns
-unfolding u32_at
-returns c = search rules
+unfolding u16_at u32_at
+returns c = let z : c.args.at + 2 + 1 ≡ c.args.at + 3 = omega arith in (rw z (omega arith), omega arith)
