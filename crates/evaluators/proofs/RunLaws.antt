@@ -3,7 +3,7 @@
 use mathlib.Core.Path.{◌≡◌, sym, ap, ◌∙◌}
 use mathlib.Core.Bool.{Bool, true, false, not}
 use mathlib.Core.List.{List, []}
-use Prim.Native.Nat.{ℕ, suc, ◌+◌, ◌≤◌, ◌<◌}
+use Prim.Native.Nat.{ℕ, suc, ◌+◌, ◌-◌, ◌≤◌, ◌<◌}
 use native.Mathlib.Omega.{arith}
 use lib.Dec.{eqb}
 use lib.ListN.{length, get_or, drop, drop_of_length-le}
@@ -57,9 +57,9 @@ module _ (t : Places) (m : List ℕ) (at n i p W : ℕ) (places : PlacesFit t (l
         let z : n + run_length i p (drop (at + n) (items_in t m)) ≡ n + suc (run_length i p (drop (suc (at + n)) (items_in t m))) = rw (items-from t m (at + n) places inside, e) in
         rw a (omega arith)
 
-  pub run_ends : t.size ≤ at + n → n ≡ W
+  pub run_ends : at + n ≤ t.size → t.size ≤ at + n → t.size - at ≡ W
   unfolding run_length
-  run_ends h =
+  run_ends within h =
       let l : length (items_in t m) ≤ at + n = rw (items_count t m places) h in
       let e : drop (at + n) (items_in t m) ≡ [] = drop_of_length-le (items_in t m) l in
       let z : n + run_length i p (drop (at + n) (items_in t m)) ≡ n + 0 = rw e in

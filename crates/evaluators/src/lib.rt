@@ -17,6 +17,7 @@ pub fn perform(mem: &mut [u64], t: Places)
 {
     let mut place: usize = 0;
     let size = t.size;
+    // How far the next sequence is, `perform_run` answers.
     while place < size {
         let n = runs::perform_run(mem, t, place);
         place += n;

@@ -33,16 +33,13 @@ fn run_length(mem: &[u64], t: Places, at: usize, event: usize, part: usize) -> u
     requires { PlacesFit t (length mem.now) × (at ≤ t.size) }
     ensures { (result ≡ run_length event part (drop at (items_in t mem.now))) × (at + result ≤ t.size) }
 {
-    let mut n: usize = 0;
-    let size = t.size;
-    while at + n < size {
-        let from = t.items + (at + n);
-        if !goes_on(mem[from], event, part) {
+    let left = t.size - at;
+    for n in 0..left {
+        if !goes_on(mem[t.items + (at + n)], event, part) {
             return n;
         }
-        n += 1;
     }
-    n
+    left
 }
 
 // The items of a part's sequence at an event that was missed, which is no group: j is the first event heard after.
@@ -53,6 +50,7 @@ fn missed_top(mem: &mut [u64], t: Places, at: usize, count: usize, j: usize, sta
     let mut place = at;
     let mut left = count;
     let mut date = start;
+    // How far the next item is, `walk::item` answers.
     while 0 < left {
         let from = t.items + place;
         let w = mem[from];

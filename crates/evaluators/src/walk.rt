@@ -1,4 +1,5 @@
-// The items of a sequence, one after the other, and of the groups within it: heard and missed groups call on each other.
+// The items of a sequence, one after the other, and of the groups within it: heard and missed groups call on each other. The bodies go through their items by a
+// `while`, since `item` answers how far the next one is.
 ghost use Rattle.std.specs.Prelude.{◌≡◌, true, ◌+◌, ◌<◌, min};
 ghost use Rattle.rules.specs.Rules.{heard_group, missed_group, enter};
 ghost use Rattle.fates.specs.Fates.{FateBounded};
@@ -7,13 +8,6 @@ ghost use Rattle.evaluators.specs.Inner.{latest_at, item_word_at, Lent, Dated, o
 use fates::{Places, outcomes, running, words};
 use rules::{ErrorWord, Fate, Synchrony};
 use units::Grains;
-
-// How many of the items that follow a group lie within it, where `left` follow it.
-fn extent(last: usize, left: usize) -> usize
-    ensures { result ≡ min last left }
-{
-    if last < left { last } else { left }
-}
 
 // One item whose fate is known, with all within it: how many items that is.
 #[cycle(heard_body_item_missed_body_still_body_within)]
@@ -34,13 +28,13 @@ pub fn item(
         outcomes::leave(mem, t, at, f);
         return 1;
     }
-    let n = extent(x.last, count - 1);
+    let n = x.last.min(count - 1);
     let size = n + 1;
     if levels == 0 {
         return size;
     }
-    let y = rules::synchrony_of(x.synchrony);
-    let e = rules::error_of(x.error);
+    let y = Synchrony::from(x.synchrony);
+    let e = ErrorWord::from(x.error);
     within(mem, t, levels - 1, at + 1, n, y, e, f);
     size
 }

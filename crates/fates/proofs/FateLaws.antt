@@ -29,15 +29,6 @@ module _ (t : Places) (m : List ℕ) (j d s : ℕ) (is : s ≡ (reading_in t m).
   unfolding past reading_in
   past_is = rw is
 
-  -- the later of its own date and E(j)
-  pub raised_is : d < s → s ≡ future_date (reading_in t m) j d
-  unfolding future_date
-  raised_is l = omega arith
-
-  pub kept-is : s ≤ d → d ≡ future_date (reading_in t m) j d
-  unfolding future_date
-  kept-is l = omega arith
-
 -- A missed global group starts where a future item does.
 pub global-start-is : (t : Places) (m : List ℕ) (j d s : ℕ) → s ≡ future_date (reading_in t m) j d → s ≡ global_start (reading_in t m) j d
 unfolding future_date global_start

@@ -9,13 +9,11 @@ use units::Grains;
 pub fn since(date: Grains, start: Grains) -> Grains
     ensures { result.0 ≡ date.0 - start.0 }
 {
-    if date.0 < start.0 {
-        return Grains(0);
-    }
-    Grains(date.0 - start.0)
+    Grains(date.0.saturating_sub(start.0))
 }
 
-// The last event at or before a date, by bisection: the events from `low` on, `size` of them, are those that are left.
+// The last event at or before a date, by bisection: the events from `low` on, `size` of them, are those that are left. It halves by hand, since the definition
+// `halved` says of any words, sorted or not, which event is found, and the library's search promises nothing of words that are not sorted.
 pub fn last_by(mem: &[u64], t: Places, date: Grains) -> usize
     requires { PlacesFit t (length mem.now) }
     ensures { (result ≡ (reading_in t mem.now).last_before date.0) × (result ≤ 256) }

@@ -24,7 +24,7 @@ fn future_date(mem: &[u64], t: Places, j: usize, own: Grains) -> Grains
     ensures { (result.0 ≡ Rules.future_date (reading_in t mem.now) j own.0) × (result.0 ≤ own.0 + 2 ^ 31) }
 {
     let start = words::start_of(mem, t, j);
-    if own.0 < start.0 { start } else { own }
+    Grains(own.0.max(start.0))
 }
 
 // Where a missed global group starts that is heard at j: the later of its own date and E(j), as a future item does.

@@ -1,5 +1,5 @@
 -- `run_length` counts the items that go on. The invariant: those counted, and how many follow them, are the run.
--- The measure is what is left of the table. Assumes nothing.
+-- Assumes nothing.
 use mathlib.Core.Path.{◌≡◌}
 use Prim.Native.Nat.{◌+◌, ◌-◌, ◌≤◌}
 use lib.ListN.{drop}
@@ -8,7 +8,4 @@ use Rattle.fates.specs.Places.{items_in}
 use Rattle.evaluators.proofs.runs.run_length.Given as goal
 
 abbrev pub invariant-loop-n : goal.invariant-loop-n
-invariant-loop-n l = (l.at + l.n ≤ l.t.size) × (l.n + run_length l.event l.part (drop (l.at + l.n) (items_in l.t l.mem)) ≡ run_length l.event l.part (drop l.at (items_in l.t l.mem)))
-
-abbrev pub decreases-loop-n : goal.decreases-loop-n
-decreases-loop-n l = l.t.size - (l.at + l.n)
+invariant-loop-n l = l.n + run_length l.event l.part (drop (l.at + l.n) (items_in l.t l.mem)) ≡ run_length l.event l.part (drop l.at (items_in l.t l.mem))

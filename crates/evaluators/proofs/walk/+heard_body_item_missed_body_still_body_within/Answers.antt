@@ -61,20 +61,11 @@ item-returns-then-x-eq0 t c = search items
 pub item-overflow_sub-count : goal.item-overflow_sub-count
 item-overflow_sub-count t c = search items
 
-pub item-extent-n-requires : goal.item-extent-n-requires
-item-extent-n-requires t c = search items
-
 pub item-overflow_add-size : goal.item-overflow_add-size
 item-overflow_add-size t c = search items
 
 pub item-returns-then-levels-eq0 : goal.item-returns-then-levels-eq0
 item-returns-then-levels-eq0 t c = search items
-
-pub item-synchrony_of-y-requires : goal.item-synchrony_of-y-requires
-item-synchrony_of-y-requires t c = search items
-
-pub item-error_of-e-requires : goal.item-error_of-e-requires
-item-error_of-e-requires t c = search items
 
 pub item-overflow_sub-levels : goal.item-overflow_sub-levels
 item-overflow_sub-levels t c = search items

@@ -1,6 +1,6 @@
--- `error_of` names the word of a number, case by case. Assumes nothing.
+-- The word of a number, case by case. Assumes nothing.
 use Rattle.rules.proofs.WordLaws.{words}
-use Rattle.rules.proofs.error_of.Goals as goal
+use Rattle.rules.proofs.ErrorWordFromUsize.from.Goals as goal
 
 pub returns-in-0 : goal.returns-in-0
 returns-in-0 c = search words
