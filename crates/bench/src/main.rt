@@ -64,12 +64,10 @@ fn open_score(mem: &mut [u64], file: &[u8]) -> Told {
 
 // Every event from the first to the last, at clock 0.
 fn hear_all(mem: &mut [u64], room: &mut [u64]) -> Told {
-    let mut event: u64 = 1;
-    while event < 256 {
+    for event in 1..256 {
         let _ = sequencer::hear(mem, room, event, FAST);
-        event += 1;
     }
-    tell_sent(sequencer::hear(mem, room, event, FAST))
+    tell_sent(sequencer::hear(mem, room, 256, FAST))
 }
 
 // The calls of a session that was opened just before.

@@ -30,28 +30,32 @@ write-none at ws m W e owed = rw e at owed
 
 -- ---- the starts of a file's events
 
-module _ (f m W : List ℕ) (at sum k events : ℕ) (n : events ≡ (counts_of f).events) (owed : with_words at (starts_of sum (drop k (decode f).durations)) m ≡ W) where
+module _ (f m W : List ℕ) (base sum k events : ℕ) (n : events ≡ (counts_of f).events) (owed : with_words (base + k) (starts_of sum (drop k (decode f).durations)) m ≡ W) where
   pub starts-end : events ≤ k → m ≡ W
   unfolding starts_of
   starts-end l =
       let all : length (decode f).durations ≤ k = omega (arith, events-decoded f) in
-      write-none at _ m W (rw (drop_of_length-le (decode f).durations all)) owed
+      write-none (base + k) _ m W (rw (drop_of_length-le (decode f).durations all)) owed
 
-  pub starts-next : (d : Grains) → k < events → EventRead f k d → with_words (at + 1) (starts_of (sum + d.0) (drop (k + 1) (decode f).durations)) (set m at sum) ≡ W
+  pub starts-next : (d : Grains) → k < events → EventRead f k d
+      → with_words (base + (k + 1)) (starts_of (sum + d.0) (drop (k + 1) (decode f).durations)) (set m (base + k) sum) ≡ W
   unfolding starts_of
   starts-next d l r =
       let more : k < length (decode f).durations = omega (arith, events-decoded f) in
-      write-one at sum _ _ m W (rw (drop-next (decode f).durations k 0 d.0 more r.read)) owed
+      let next : base + (k + 1) ≡ base + k + 1 = omega arith in
+      rw next (write-one (base + k) sum _ _ m W (rw (drop-next (decode f).durations k 0 d.0 more r.read)) owed)
 
 -- ---- the words of a file's items
 
-module _ (f m W : List ℕ) (at p items : ℕ) (n : items ≡ (counts_of f).items) (owed : with_words at (map item_word (drop p (decode f).items)) m ≡ W) where
+module _ (f m W : List ℕ) (base p items : ℕ) (n : items ≡ (counts_of f).items) (owed : with_words (base + p) (map item_word (drop p (decode f).items)) m ≡ W) where
   pub page_end : items ≤ p → m ≡ W
   page_end l =
       let all : length (decode f).items ≤ p = omega (arith, items-decoded f) in
-      write-none at _ m W (rw (drop_of_length-le (decode f).items all)) owed
+      write-none (base + p) _ m W (rw (drop_of_length-le (decode f).items all)) owed
 
-  pub page-next : (i : Item) (w : ℕ) → p < items → ItemRead f p i → w ≡ item_word i → with_words (at + 1) (map item_word (drop (p + 1) (decode f).items)) (set m at w) ≡ W
+  pub page-next : (i : Item) (w : ℕ) → p < items → ItemRead f p i → w ≡ item_word i
+      → with_words (base + (p + 1)) (map item_word (drop (p + 1) (decode f).items)) (set m (base + p) w) ≡ W
   page-next i w l r v =
       let more : p < length (decode f).items = omega (arith, items-decoded f) in
-      write-one at w _ _ m W (rw (drop-next (decode f).items p blank i more r.read, v)) owed
+      let next : base + (p + 1) ≡ base + p + 1 = omega arith in
+      rw next (write-one (base + p) w _ _ m W (rw (drop-next (decode f).items p blank i more r.read, v)) owed)

@@ -35,11 +35,7 @@ fn clear(mem: &mut [u64])
     requires { memory_size ≤ length mem.old }
     ensures { mem.new ≡ cleared mem.old }
 {
-    let mut i = 0;
-    while i < MEMORY_SIZE {
-        mem[i] = 0;
-        i += 1;
-    }
+    mem[..MEMORY_SIZE].fill(0);
 }
 
 // The header of a new session: nothing heard, nothing sent, the clock at 0.
@@ -60,15 +56,11 @@ fn put_starts(mem: &mut [u64], file: &[u8], events: usize)
     requires { (memory_size ≤ length mem.old) × Accepted file.now × (events ≡ (counts_of file.now).events) × (events ≤ most_events) }
     ensures { mem.new ≡ with_words (starts_at + 1) (starts_of 0 (decode file.now).durations) mem.old }
 {
-    let mut at = STARTS_AT + 1;
     let mut sum = Grains(0);
-    let mut k = 0;
-    while k < events {
-        mem[at] = sum.0;
+    for k in 0..events {
+        mem[STARTS_AT + 1 + k] = sum.0;
         let d = score::duration(file, k);
         sum = Grains(sum.0 + d.0);
-        at += 1;
-        k += 1;
     }
 }
 
@@ -77,12 +69,8 @@ fn put_page(mem: &mut [u64], file: &[u8], items: usize)
     requires { (memory_size ≤ length mem.old) × Accepted file.now × (items ≡ (counts_of file.now).items) × (items ≤ most_items) }
     ensures { mem.new ≡ with_words page_at (map item_word (decode file.now).items) mem.old }
 {
-    let mut at = PAGE_AT;
-    let mut p = 0;
-    while p < items {
-        mem[at] = item_word(score::read_item(file, p));
-        at += 1;
-        p += 1;
+    for p in 0..items {
+        mem[PAGE_AT + p] = item_word(score::read_item(file, p));
     }
 }
 

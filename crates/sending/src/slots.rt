@@ -68,9 +68,7 @@ pub fn settle(mem: &mut [u64], clock: Thousandths, count: usize)
     requires { (memory_size ≤ length mem.old) × (count ≤ 2048) × (clock.0 ≤ clock_end) }
     ensures { mem.new ≡ settled clock.0 count 0 mem.old }
 {
-    let mut place: usize = 0;
-    while place < count {
+    for place in 0..count {
         settle_place(mem, clock, place);
-        place += 1;
     }
 }

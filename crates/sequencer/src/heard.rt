@@ -19,10 +19,9 @@ fn take_note(mem: &mut [u64], event: usize)
     ensures { mem.new
         ≡ took_note event (event - word_at mem.old last_at) (word_at mem.old last_at + 1) mem.old }
 {
-    let mut k = mem[LAST_AT] as usize + 1;
-    while k <= event {
+    let first = mem[LAST_AT] as usize + 1;
+    for k in first..event + 1 {
         mem[TAKEN_AT + k] = event as u64;
-        k += 1;
     }
 }
 

@@ -5,7 +5,4 @@ use Rattle.sending.specs.Sending.{settled}
 use Rattle.sending.proofs.slots.settle.Given as goal
 
 abbrev pub invariant-loop-place : goal.invariant-loop-place
-invariant-loop-place l = (length l.mem ≡ length l.initial.mem) × (l.place ≤ l.count) × (settled l.clock.0 (l.count - l.place) l.place l.mem ≡ settled l.clock.0 l.count 0 l.initial.mem)
-
-abbrev pub decreases-loop-place : goal.decreases-loop-place
-decreases-loop-place l = l.count - l.place
+invariant-loop-place l = (length l.mem ≡ length l.initial.mem) × (settled l.clock.0 (l.count - l.place) l.place l.mem ≡ settled l.clock.0 l.count 0 l.initial.mem)

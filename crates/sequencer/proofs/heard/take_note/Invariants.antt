@@ -7,7 +7,4 @@ use Rattle.sequencer.specs.Calls.{took_note}
 use Rattle.sequencer.proofs.heard.take_note.Given as goal
 
 abbrev pub invariant-loop-k : goal.invariant-loop-k
-invariant-loop-k l = (length l.mem ≡ length l.initial.mem) × (l.k ≤ 257) × (took_note l.event (l.event + 1 - l.k) l.k l.mem ≡ took_note l.event (l.event + 1 - l.initial.k) l.initial.k l.initial.mem)
-
-abbrev pub decreases-loop-k : goal.decreases-loop-k
-decreases-loop-k l = l.event + 1 - l.k
+invariant-loop-k l = (length l.mem ≡ length l.initial.mem) × (took_note l.event (l.event + 1 - l.k) l.k l.mem ≡ took_note l.event (l.event + 1 - l.first) l.first l.initial.mem)
