@@ -17,8 +17,9 @@ use Rattle.session.specs.declared.Refusal.{Refusal}
 use Rattle.session.specs.Layout.{memory_size}
 use Rattle.opening.specs.Opening.{zeros, opening_check}
 use Rattle.opening.proofs.Opened.{opened-accepted}
+use Rattle.std.specs.Prelude.{Option, Some, None}
 use Rattle.lines.specs.declared.Command.{Command}
-use Rattle.lines.specs.declared.Command.TheVariants.{Open, Hear, Pass, Bad}
+use Rattle.lines.specs.declared.Command.TheVariants.{Open, Hear, Pass}
 use Rattle.lines.specs.Lines.{lines_of}
 use Rattle.lines.specs.Commands.{command_of}
 use Rattle.playing.specs.Printed.{printed}
@@ -41,14 +42,14 @@ module _ (f g : List ℕ) (alike : (m : List ℕ) (o : Terms) → opening_check 
   opening-alike o fine e ls = absurd (never (zeros memory_size) o e)
   opening-alike o (refused x) e ls = refl
 
-  first-alike-told : (grace : ℕ) (c : Command) (l : List ℕ) (ls : List (List ℕ)) → first_told g grace c l ls ≡ first_told f grace c l ls
+  first-alike-told : (grace : ℕ) (c : Option Command) (l : List ℕ) (ls : List (List ℕ)) → first_told g grace c l ls ≡ first_told f grace c l ls
   unfolding first_told
-  first-alike-told grace (Open parts tempo) l ls =
+  first-alike-told grace (Some (Open parts tempo)) l ls =
       let o : Terms = record { parts = parts; tempo = tempo; grace = grace } in
       rw (alike (zeros memory_size) o) (opening-alike o _ refl ls)
-  first-alike-told grace (Hear event tempo) l ls = refl
-  first-alike-told grace (Pass ms) l ls = refl
-  first-alike-told grace Bad l ls = refl
+  first-alike-told grace (Some (Hear event tempo)) l ls = refl
+  first-alike-told grace (Some (Pass ms)) l ls = refl
+  first-alike-told grace None l ls = refl
 
   lines-alike : (grace : ℕ) (ls : List (List ℕ)) → lines_told g grace ls ≡ lines_told f grace ls
   unfolding lines_told

@@ -31,8 +31,9 @@ use Rattle.demands.proofs.Room.{few-sent}
 use Rattle.demands.proofs.MemoryAndHistory.Holds.{Holds}
 use Rattle.demands.proofs.MemoryAndHistory.Answers.{call-answers, call-leaves}
 use Rattle.demands.proofs.MemoryAndHistory.Opened.{granted, opened-holds}
+use Rattle.std.specs.Prelude.{Option, Some, None}
 use Rattle.lines.specs.declared.Command.{Command}
-use Rattle.lines.specs.declared.Command.TheVariants.{Open, Hear, Pass, Bad}
+use Rattle.lines.specs.declared.Command.TheVariants.{Open, Hear, Pass}
 use Rattle.lines.specs.Lines.{lines_of}
 use Rattle.lines.specs.Commands.{most_parts, command_of, in_turn}
 use Rattle.lines.specs.Output.{open_line, bad_line}
@@ -83,30 +84,30 @@ abbrev standing : (m room : List ℕ) → Stand
 standing m room = record { memory = m; room = room; opened = true }
 
 module _ (f : List ℕ) (g n : ℕ) (m room l : List ℕ) where
-  heard-line : (h tempo : ℕ) → command_of l ≡ Hear h tempo → carried f g n (standing m room) l ≡ carried_sending f true (heard_note m room h tempo)
+  heard-line : (h tempo : ℕ) → command_of l ≡ Some (Hear h tempo) → carried f g n (standing m room) l ≡ carried_sending f true (heard_note m room h tempo)
   unfolding carried carried_by in_turn pick
   heard-line h tempo e = rw e
 
-  passed-line : (ms : ℕ) → command_of l ≡ Pass ms → carried f g n (standing m room) l ≡ carried_sending f true (passing_time m room ms)
+  passed-line : (ms : ℕ) → command_of l ≡ Some (Pass ms) → carried f g n (standing m room) l ≡ carried_sending f true (passing_time m room ms)
   unfolding carried carried_by in_turn pick
   passed-line ms e = rw e
 
-  bad-line : command_of l ≡ Bad → carried f g n (standing m room) l ≡ record { stand = standing m room; output = bad_line n }
+  bad-line : command_of l ≡ None → carried f g n (standing m room) l ≡ record { stand = standing m room; output = bad_line n }
   unfolding carried carried_by in_turn
   bad-line e = rw e
 
-  late-line : (parts tempo : ℕ) → 2 ≤ n → command_of l ≡ Open parts tempo → carried f g n (standing m room) l ≡ record { stand = standing m room; output = bad_line n }
+  late-line : (parts tempo : ℕ) → 2 ≤ n → command_of l ≡ Some (Open parts tempo) → carried f g n (standing m room) l ≡ record { stand = standing m room; output = bad_line n }
   unfolding carried carried_by in_turn pick
   late-line parts tempo two e = let other : eqb n 1 ≡ false = ne_eqb n 1 (λ z. omega arith) in rw (e, other)
 
 module _ (f ds : List ℕ) (es : List Entry) (n total : ℕ) (s : Now) (l : List ℕ) (ls : List (List ℕ)) where
-  told-call : (k : Command) (c : Call) → command_of l ≡ k → asked_by k ≡ call c
+  told-call : (k : Option Command) (c : Call) → command_of l ≡ k → asked_by k ≡ call c
       → told_from f ds es n total s (l ∷ ls)
       ≡ call_told f ds es s c ++ told_from f ds es (n + 1) (total + length (messages_by ds es s c)) (after (length ds) s c) ls
   unfolding told_from
   told-call k c e a = rw (e, a, told_from)
 
-  told-bad : (k : Command) → command_of l ≡ k → asked_by k ≡ none → told_from f ds es n total s (l ∷ ls) ≡ bad_line n ++ told_from f ds es (n + 1) total s ls
+  told-bad : (k : Option Command) → command_of l ≡ k → asked_by k ≡ none → told_from f ds es n total s (l ∷ ls) ≡ bad_line n ++ told_from f ds es (n + 1) total s ls
   unfolding told_from
   told-bad k e a = rw (e, a, told_from)
 
@@ -158,7 +159,7 @@ module _ (f : List ℕ) (accepted : Accepted f) (o : Terms) where
   module _ (n total : ℕ) (s : Now) (m room : List ℕ) (holds : Holds f o total s m) (wide : room_size ≤ length room) (l : List ℕ) (ls : List (List ℕ))
       (later : (total : ℕ) (s : Now) (m room : List ℕ) → Holds f o total s m → room_size ≤ length room
       → printed_from f o.grace (n + 1) (standing m room) ls ≡ told_from f ds es (n + 1) total s ls) where
-    hear-told : (h tempo : ℕ) → command_of l ≡ Hear h tempo → printed_from f o.grace n (standing m room) (l ∷ ls) ≡ told_from f ds es n total s (l ∷ ls)
+    hear-told : (h tempo : ℕ) → command_of l ≡ Some (Hear h tempo) → printed_from f o.grace n (standing m room) (l ∷ ls) ≡ told_from f ds es n total s (l ∷ ls)
     unfolding answer_in answer memory_after asked_by
     hear-told h tempo e =
         let c : Call = note room h tempo in
@@ -169,9 +170,9 @@ module _ (f : List ℕ) (accepted : Accepted f) (o : Terms) where
         printed-line f o.grace n (standing m room) l ls _ (heard-line f o.grace n m room l h tempo e)
         ∙ (sending-told n total s room c (note (zeros room_size) h tempo) r ls answers leaves alike
         (later _ _ r.memory r.room leaves (still-wide n total s room c (note (zeros room_size) h tempo) r ls answers leaves alike wide))
-        ∙ sym (told-call f ds es n total s l ls (Hear h tempo) (note (zeros room_size) h tempo) e refl))
+        ∙ sym (told-call f ds es n total s l ls (Some (Hear h tempo)) (note (zeros room_size) h tempo) e refl))
 
-    pass-told : (ms : ℕ) → command_of l ≡ Pass ms → printed_from f o.grace n (standing m room) (l ∷ ls) ≡ told_from f ds es n total s (l ∷ ls)
+    pass-told : (ms : ℕ) → command_of l ≡ Some (Pass ms) → printed_from f o.grace n (standing m room) (l ∷ ls) ≡ told_from f ds es n total s (l ∷ ls)
     unfolding answer_in answer memory_after asked_by
     pass-told ms e =
         let c : Call = pass room ms in
@@ -182,19 +183,19 @@ module _ (f : List ℕ) (accepted : Accepted f) (o : Terms) where
         printed-line f o.grace n (standing m room) l ls _ (passed-line f o.grace n m room l ms e)
         ∙ (sending-told n total s room c (pass (zeros room_size) ms) r ls answers leaves alike
         (later _ _ r.memory r.room leaves (still-wide n total s room c (pass (zeros room_size) ms) r ls answers leaves alike wide))
-        ∙ sym (told-call f ds es n total s l ls (Pass ms) (pass (zeros room_size) ms) e refl))
+        ∙ sym (told-call f ds es n total s l ls (Some (Pass ms)) (pass (zeros room_size) ms) e refl))
 
-    bad-told : (k : Command) → command_of l ≡ k → asked_by k ≡ none → carried f o.grace n (standing m room) l ≡ record { stand = standing m room; output = bad_line n }
+    bad-told : (k : Option Command) → command_of l ≡ k → asked_by k ≡ none → carried f o.grace n (standing m room) l ≡ record { stand = standing m room; output = bad_line n }
         → printed_from f o.grace n (standing m room) (l ∷ ls) ≡ told_from f ds es n total s (l ∷ ls)
     bad-told k e a c =
         printed-line f o.grace n (standing m room) l ls _ c ∙ (ap (λ (t : List ℕ). bad_line n ++ t) (later total s m room holds wide) ∙ sym (told-bad f ds es n total s l ls k e a))
 
-    line-told : 2 ≤ n → (k : Command) → command_of l ≡ k → printed_from f o.grace n (standing m room) (l ∷ ls) ≡ told_from f ds es n total s (l ∷ ls)
+    line-told : 2 ≤ n → (k : Option Command) → command_of l ≡ k → printed_from f o.grace n (standing m room) (l ∷ ls) ≡ told_from f ds es n total s (l ∷ ls)
     unfolding asked_by
-    line-told two (Open parts tempo) e = bad-told (Open parts tempo) e refl (late-line f o.grace n m room l parts tempo two e)
-    line-told two (Hear h tempo) e = hear-told h tempo e
-    line-told two (Pass ms) e = pass-told ms e
-    line-told two Bad e = bad-told Bad e refl (bad-line f o.grace n m room l e)
+    line-told two (Some (Open parts tempo)) e = bad-told (Some (Open parts tempo)) e refl (late-line f o.grace n m room l parts tempo two e)
+    line-told two (Some (Hear h tempo)) e = hear-told h tempo e
+    line-told two (Some (Pass ms)) e = pass-told ms e
+    line-told two None e = bad-told None e refl (bad-line f o.grace n m room l e)
 
   lines-told : (ls : List (List ℕ)) (n total : ℕ) (s : Now) (m room : List ℕ) → 2 ≤ n → Holds f o total s m → room_size ≤ length room
       → printed_from f o.grace n (standing m room) ls ≡ told_from f ds es n total s ls
@@ -211,7 +212,7 @@ zeros-long = omega (arith, zeros-length memory_size)
 module _ (f : List ℕ) (o : Terms) (accepted : Accepted f) (sixteen : o.parts < 65536) (speed : between 1 most_tempo o.tempo ≡ true)
     (graced : o.grace ≤ most_grace) where
   -- The first line opens the session.
-  opening-line : (first : List ℕ) → command_of first ≡ Open o.parts o.tempo
+  opening-line : (first : List ℕ) → command_of first ≡ Some (Open o.parts o.tempo)
       → carried f o.grace 1 outset first
       ≡ record { stand = standing (opened (zeros memory_size) f o).memory (zeros room_size); output = open_line 0 (sounding_below o.parts 16) }
   unfolding carried carried_by in_turn pick outset carried_opening opening_reply
@@ -219,7 +220,7 @@ module _ (f : List ℕ) (o : Terms) (accepted : Accepted f) (sixteen : o.parts <
       rw (e, opened-sounding (zeros memory_size) f o (granted f (zeros memory_size) o accepted zeros-long sixteen speed graced) sixteen)
 
   -- Whatever the lines after it are.
-  granted-told : (first : List ℕ) (rest : List (List ℕ)) → command_of first ≡ Open o.parts o.tempo
+  granted-told : (first : List ℕ) (rest : List (List ℕ)) → command_of first ≡ Some (Open o.parts o.tempo)
       → printed_from f o.grace 1 outset (first ∷ rest)
       ≡ open_line 0 (sounding_below o.parts 16) ++ told_from f (decode f).durations (sounding_in f (sounds o.parts)) 2 0 (start o) rest
   granted-told first rest e =
@@ -231,7 +232,7 @@ module _ (f : List ℕ) (o : Terms) (accepted : Accepted f) (sixteen : o.parts <
 -- ---- the whole input
 
 module _ (f l : List ℕ) (ls : List (List ℕ)) where
-  opening-told : (o : Terms) → command_of l ≡ Open o.parts o.tempo → (v : Check Refusal) → opening_check (zeros memory_size) f o ≡ v
+  opening-told : (o : Terms) → command_of l ≡ Some (Open o.parts o.tempo) → (v : Check Refusal) → opening_check (zeros memory_size) f o ≡ v
       → printed_from f o.grace 1 outset (l ∷ ls) ≡ opening_told f o v ls
   unfolding opening_told
   opening-told o e fine g =
@@ -239,12 +240,12 @@ module _ (f l : List ℕ) (ls : List (List ℕ)) where
       granted-told f o (opened-accepted (zeros memory_size) f o g) (omega arith) (opened-tempo (zeros memory_size) f o g) (opened-grace (zeros memory_size) f o g) l ls e
   opening-told o e (refused x) g = refused-first f o.grace l ls o x refl e g
 
-  first-told : (g : ℕ) (c : Command) → command_of l ≡ c → printed_from f g 1 outset (l ∷ ls) ≡ first_told f g c l ls
+  first-told : (g : ℕ) (c : Option Command) → command_of l ≡ c → printed_from f g 1 outset (l ∷ ls) ≡ first_told f g c l ls
   unfolding first_told
-  first-told g (Open parts tempo) e = opening-told (record { parts = parts; tempo = tempo; grace = g }) e _ refl
-  first-told g (Hear event tempo) e = heard-first f g l ls event tempo e
-  first-told g (Pass ms) e = passed_first f g l ls ms e
-  first-told g Bad e = bad-first f g l ls e
+  first-told g (Some (Open parts tempo)) e = opening-told (record { parts = parts; tempo = tempo; grace = g }) e _ refl
+  first-told g (Some (Hear event tempo)) e = heard-first f g l ls event tempo e
+  first-told g (Some (Pass ms)) e = passed_first f g l ls ms e
+  first-told g None e = bad-first f g l ls e
 
 every-told : (f : List ℕ) (g : ℕ) (ls : List (List ℕ)) → printed_from f g 1 outset ls ≡ lines_told f g ls
 unfolding lines_told

@@ -21,8 +21,9 @@ use Rattle.opening.proofs.ClearedLaws.{zeros-length}
 use Rattle.opening.proofs.Opened.{refused-kept, zeros-no-session}
 use Rattle.sequencer.specs.Replies.{report_reply}
 use Rattle.sequencer.specs.Calls.{report_check, if_known, reported}
+use Rattle.std.specs.Prelude.{Option, Some, None}
 use Rattle.lines.specs.declared.Command.{Command}
-use Rattle.lines.specs.declared.Command.TheVariants.{Open, Hear, Pass, Bad}
+use Rattle.lines.specs.declared.Command.TheVariants.{Open, Hear, Pass}
 use Rattle.lines.specs.Commands.{command_of, in_turn}
 use Rattle.lines.specs.Output.{open_line, bad_line, end_line}
 use Rattle.playing.specs.Printed.{Stand, Carried, figures_of, carried_opening, carried_by, carried, ending, printed_from, outset}
@@ -56,12 +57,12 @@ badly n = record { stand = outset; output = bad_line n }
 
 module _ (f : List ℕ) (g n : ℕ) where
   -- What is out of turn where line n is not the first, and where it is.
-  late-bad : (c : Command) → carried_by f g n outset (in_turn false false c) ≡ badly n
+  late-bad : (c : Option Command) → carried_by f g n outset (in_turn false false c) ≡ badly n
   unfolding carried_by in_turn pick
-  late-bad (Open parts tempo) = refl
-  late-bad (Hear event tempo) = refl
-  late-bad (Pass ms) = refl
-  late-bad Bad = refl
+  late-bad (Some (Open parts tempo)) = refl
+  late-bad (Some (Hear event tempo)) = refl
+  late-bad (Some (Pass ms)) = refl
+  late-bad None = refl
 
   late-line : (l : List ℕ) → 2 ≤ n → carried f g n outset l ≡ badly n
   unfolding carried outset
@@ -84,20 +85,20 @@ module _ (f : List ℕ) (g : ℕ) where
     unfolding unopened_from
     unopened-first e = printed-line f g 1 outset l ls _ e ∙ ap (λ (t : List ℕ). bad_line 1 ++ t) (unopened-lines f g 2 (omega arith) ls)
 
-    pub heard-first : (event tempo : ℕ) → command_of l ≡ Hear event tempo → printed_from f g 1 outset (l ∷ ls) ≡ unopened_from 1 (l ∷ ls)
+    pub heard-first : (event tempo : ℕ) → command_of l ≡ Some (Hear event tempo) → printed_from f g 1 outset (l ∷ ls) ≡ unopened_from 1 (l ∷ ls)
     unfolding carried carried_by in_turn pick outset
     heard-first event tempo e = unopened-first (rw e)
 
-    pub passed_first : (ms : ℕ) → command_of l ≡ Pass ms → printed_from f g 1 outset (l ∷ ls) ≡ unopened_from 1 (l ∷ ls)
+    pub passed_first : (ms : ℕ) → command_of l ≡ Some (Pass ms) → printed_from f g 1 outset (l ∷ ls) ≡ unopened_from 1 (l ∷ ls)
     unfolding carried carried_by in_turn pick outset
     passed_first ms e = unopened-first (rw e)
 
-    pub bad-first : command_of l ≡ Bad → printed_from f g 1 outset (l ∷ ls) ≡ unopened_from 1 (l ∷ ls)
+    pub bad-first : command_of l ≡ None → printed_from f g 1 outset (l ∷ ls) ≡ unopened_from 1 (l ∷ ls)
     unfolding carried carried_by in_turn pick outset
     bad-first e = unopened-first (rw e)
 
     -- A refused opening leaves no session.
-    pub refused-first : (o : Terms) (x : Refusal) → o.grace ≡ g → command_of l ≡ Open o.parts o.tempo → opening_check (zeros memory_size) f o ≡ refused x
+    pub refused-first : (o : Terms) (x : Refusal) → o.grace ≡ g → command_of l ≡ Some (Open o.parts o.tempo) → opening_check (zeros memory_size) f o ≡ refused x
         → printed_from f g 1 outset (l ∷ ls) ≡ open_line (refusal_row x).number 0 ++ unopened_from 2 ls
     unfolding carried carried_by in_turn pick outset carried_opening opening_reply
     refused-first o x same e r =

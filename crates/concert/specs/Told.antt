@@ -1,5 +1,5 @@
 -- What a run prints, `play`'s or one with a grace, by the score and the history of the calls alone: nothing of what session memory or a send room holds.
-use Rattle.std.specs.Prelude.{ℕ, ◌+◌, List, [], ◌∷◌, ◌++◌, length}
+use Rattle.std.specs.Prelude.{ℕ, ◌+◌, List, [], ◌∷◌, ◌++◌, length, Option, Some, None}
 use Rattle.base.specs.Checks.{Check, fine, refused}
 use Rattle.score.specs.Piece.{decode}
 use Rattle.score.specs.LookUp.{label_bytes}
@@ -14,7 +14,7 @@ use Rattle.demands.specs.History.{Call, note, pass, Now, start, verdict, moved, 
 use Rattle.demands.specs.Messages.{Sent}
 use Rattle.demands.specs.Answers.{messages_of, messages_by, sounding_in}
 use Rattle.lines.specs.declared.Command.{Command}
-use Rattle.lines.specs.declared.Command.TheVariants.{Open, Hear, Pass, Bad}
+use Rattle.lines.specs.declared.Command.TheVariants.{Open, Hear, Pass}
 use Rattle.lines.specs.Lines.{lines_of}
 use Rattle.lines.specs.Commands.{command_of}
 use Rattle.lines.specs.Output.{open_line, message_line, no_line, bad_line, end_line}
@@ -46,11 +46,11 @@ pub data Asking : Type 0 where
   none : Asking
 
 -- The send room is of the length that is asked for. An `O` is out of turn after the first line.
-unfoldable pub asked_by : Command → Asking
-asked_by (Open parts tempo) = none
-asked_by (Hear event tempo) = call (note (zeros room_size) event tempo)
-asked_by (Pass ms) = call (pass (zeros room_size) ms)
-asked_by Bad = none
+unfoldable pub asked_by : Option Command → Asking
+asked_by (Some (Open parts tempo)) = none
+asked_by (Some (Hear event tempo)) = call (note (zeros room_size) event tempo)
+asked_by (Some (Pass ms)) = call (pass (zeros room_size) ms)
+asked_by None = none
 
 -- These lines, of which the first is line n, and the end: "`bad L` for line L that it can't read or that comes out of turn"; "last `end K sent S`". So far total
 -- messages were sent.
@@ -78,13 +78,13 @@ opening_told f o fine ls = open_line 0 (sounding_below o.parts 16) ++ told_from 
 opening_told f o (refused x) ls = open_line (refusal_row x).number 0 ++ unopened_from 2 ls
 
 -- By what the first line asks for: an opening with this grace, in 8,192 words, or nothing that is in turn.
-unfoldable pub first_told : (file : List ℕ) → (grace : ℕ) → Command → (line : List ℕ) → List (List ℕ) → List ℕ
-first_told f g (Open parts tempo) l ls =
+unfoldable pub first_told : (file : List ℕ) → (grace : ℕ) → Option Command → (line : List ℕ) → List (List ℕ) → List ℕ
+first_told f g (Some (Open parts tempo)) l ls =
     let o : Terms = record { parts = parts; tempo = tempo; grace = g } in
     opening_told f o (opening_check (zeros memory_size) f o) ls
-first_told f g (Hear event tempo) l ls = unopened_from 1 (l ∷ ls)
-first_told f g (Pass ms) l ls = unopened_from 1 (l ∷ ls)
-first_told f g Bad l ls = unopened_from 1 (l ∷ ls)
+first_told f g (Some (Hear event tempo)) l ls = unopened_from 1 (l ∷ ls)
+first_told f g (Some (Pass ms)) l ls = unopened_from 1 (l ∷ ls)
+first_told f g None l ls = unopened_from 1 (l ∷ ls)
 
 unfoldable pub lines_told : (file : List ℕ) → (grace : ℕ) → List (List ℕ) → List ℕ
 lines_told f g [] = unopened_from 1 []

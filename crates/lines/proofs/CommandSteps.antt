@@ -12,13 +12,14 @@ use lib.Dec.{leb, eqb}
 use borrow.Author.Tests.{le-leb, lt-leb}
 use borrow.Author.Rules.{rules}
 use Rattle.std.specs.Prelude.{Option, Some, None}
+use Rattle.std.specs.Bool.{then_some}
 use Rattle.base.specs.Tests.{pick, every, between}
 use Rattle.base.proofs.TestLaws.{every-pass, every-stop, every-end, pick_true, pick-false}
 use Rattle.ascii.specs.Words.{space, begins, bytes_before}
 use Rattle.ascii.specs.Numbers.{is_number, value, number_of}
 use Rattle.ascii.proofs.NumberSteps.{not-two, told-number, told-value, told_none}
 use Rattle.lines.specs.declared.Command.{Command}
-use Rattle.lines.specs.declared.Command.TheVariants.{Open, Hear, Pass, Bad}
+use Rattle.lines.specs.declared.Command.TheVariants.{Open, Hear, Pass}
 use Rattle.lines.specs.Words.{open_command, hear_command, pass_command}
 use Rattle.lines.specs.Commands.{most_parts, first_word, other_words, two_numbers, pair_of, open_of, hear_of, pass_of, command_of, in_turn}
 
@@ -91,40 +92,40 @@ module _ (bs : List ℕ) (v : Option (ℕ × ℕ)) (e : v ≡ pair_of bs) where
   unfolding pair_of
   told-no-pair p = two-not _ _ (two_numbers bs) (sym e ∙ p)
 
-  pub open_none : v ≡ None → Bad ≡ open_of bs
+  pub open_none : v ≡ None → None ≡ open_of bs
   unfolding open_of
   open_none p = pick-false _ _ _ _ (sym (every-stop _ _ (told-no-pair p))) refl
 
-  pub hear-none : v ≡ None → Bad ≡ hear_of bs
+  pub hear-none : v ≡ None → None ≡ hear_of bs
   unfolding hear_of
   hear-none p = pick-false _ _ _ _ (told-no-pair p) refl
 
   module _ (a b : ℕ) (p : v ≡ Some (a, b)) where
-    pub open-over : most_parts < a → Bad ≡ open_of bs
+    pub open-over : most_parts < a → None ≡ open_of bs
     unfolding open_of
     open-over l =
         let t = told-pair a b p in
         pick-false _ _ _ _ (not-two _ _ (rw (← t.1) (lt-leb a most_parts l))) refl
 
-    pub open-read : a ≤ most_parts → Open a b ≡ open_of bs
+    pub open-read : a ≤ most_parts → Some (Open a b) ≡ open_of bs
     unfolding open_of
     open-read l =
         let t = told-pair a b p in
         let h : leb (value (first_word bs)) most_parts ≡ true = rw (← t.1) (le-leb a most_parts l) in
         pick_true _ _ _ _ (sym (every-pass _ true _ t.0 (every-pass _ true _ h every-end))) (cc)
 
-    pub hear-read : Hear a b ≡ hear_of bs
+    pub hear-read : Some (Hear a b) ≡ hear_of bs
     unfolding hear_of
     hear-read = let t = told-pair a b p in pick_true _ _ _ _ t.0 (cc)
 
 module _ (bs : List ℕ) (v : Option ℕ) (e : v ≡ number_of bs) where
-  pub pass-none : v ≡ None → Bad ≡ pass_of bs
+  pub pass-none : v ≡ None → None ≡ pass_of bs
   unfolding pass_of
   pass-none p = pick-false _ _ _ _ (told_none bs v e p) refl
 
-  pub pass-read : (a : ℕ) → v ≡ Some a → Pass a ≡ pass_of bs
+  pub pass-read : (a : ℕ) → v ≡ Some a → Some (Pass a) ≡ pass_of bs
   unfolding pass_of
-  pass-read a p = pick_true _ _ _ _ (told-number bs v e a p) (ap Pass (told-value bs v e a p))
+  pass-read a p = pick_true _ _ _ _ (told-number bs v e a p) (ap (λ (n : ℕ). Some (Pass n)) (told-value bs v e a p))
 
 pub ruleset figures = (open_none, open-over, open-read, hear-none, hear-read, pass-none, pass-read, rules)
 
@@ -144,21 +145,21 @@ module _ (line : List ℕ) where
   after-letter = take_all (length line - 2) (drop 2 line) (simp length-drop (omega arith))
 
   module _ (o : Bool) (eo : o ≡ begins open_command line) where
-    pub command-open : (r : Command) → o ≡ true → r ≡ open_of (take (length line - 2) (drop 2 line)) → r ≡ command_of line
+    pub command-open : (r : Option Command) → o ≡ true → r ≡ open_of (take (length line - 2) (drop 2 line)) → r ≡ command_of line
     unfolding command_of
     command-open r p e = pick_true _ _ _ _ (sym eo ∙ p) (rw after-letter at e)
 
     module _ (no : o ≡ false) (h : Bool) (eh : h ≡ begins hear_command line) where
-      pub command-hear : (r : Command) → h ≡ true → r ≡ hear_of (take (length line - 2) (drop 2 line)) → r ≡ command_of line
+      pub command-hear : (r : Option Command) → h ≡ true → r ≡ hear_of (take (length line - 2) (drop 2 line)) → r ≡ command_of line
       unfolding command_of
       command-hear r p e = pick-false _ _ _ _ (sym eo ∙ no) (pick_true _ _ _ _ (sym eh ∙ p) (rw after-letter at e))
 
       module _ (nh : h ≡ false) (t : Bool) (et : t ≡ begins pass_command line) where
-        pub command-pass : (r : Command) → t ≡ true → r ≡ pass_of (take (length line - 2) (drop 2 line)) → r ≡ command_of line
+        pub command-pass : (r : Option Command) → t ≡ true → r ≡ pass_of (take (length line - 2) (drop 2 line)) → r ≡ command_of line
         unfolding command_of
         command-pass r p e = pick-false _ _ _ _ (sym eo ∙ no) (pick-false _ _ _ _ (sym eh ∙ nh) (pick_true _ _ _ _ (sym et ∙ p) (rw after-letter at e)))
 
-        pub command-none : t ≡ false → Bad ≡ command_of line
+        pub command-none : t ≡ false → None ≡ command_of line
         unfolding command_of
         command-none p = pick-false _ _ _ _ (sym eo ∙ no) (pick-false _ _ _ _ (sym eh ∙ nh) (pick-false _ _ _ _ (sym et ∙ p) refl))
 
@@ -166,35 +167,24 @@ pub ruleset letters = (letter-fits, command-open, command-hear, command-pass, co
 
 -- ---- the turn
 
-module _ (first opened : Bool) (c : Command) where
-  pub turn-bad : c ≡ Bad → Bad ≡ in_turn first opened c
+picked : (t : Bool) (c : Command) → then_some t c ≡ pick t (Some c) None
+unfolding pick
+picked true c = refl
+picked false c = refl
+
+pub turn-none : (first opened : Bool) → None ≡ in_turn first opened None
+unfolding in_turn
+turn-none first opened = refl
+
+module _ (first opened : Bool) (c : Command) (t : Bool) where
+  pub turn-open : (a b : ℕ) → c ≡ Open a b → t ≡ first → then_some t c ≡ in_turn first opened (Some c)
   unfolding in_turn
-  turn-bad e = rw e
+  turn-open a b e p = rw (e, p) (picked first _)
 
-  module _ (a b : ℕ) where
-    pub turn-open : c ≡ Open a b → first ≡ true → c ≡ in_turn first opened c
-    unfolding in_turn pick
-    turn-open e p = rw (e, p)
+  pub turn-hear : (a b : ℕ) → c ≡ Hear a b → t ≡ opened → then_some t c ≡ in_turn first opened (Some c)
+  unfolding in_turn
+  turn-hear a b e p = rw (e, p) (picked opened _)
 
-    pub turn-late : c ≡ Open a b → first ≡ false → Bad ≡ in_turn first opened c
-    unfolding in_turn pick
-    turn-late e p = rw (e, p)
-
-    pub turn-hear : c ≡ Hear a b → opened ≡ true → c ≡ in_turn first opened c
-    unfolding in_turn pick
-    turn-hear e p = rw (e, p)
-
-    pub turn-unheard : c ≡ Hear a b → opened ≡ false → Bad ≡ in_turn first opened c
-    unfolding in_turn pick
-    turn-unheard e p = rw (e, p)
-
-  module _ (a : ℕ) where
-    pub turn-pass : c ≡ Pass a → opened ≡ true → c ≡ in_turn first opened c
-    unfolding in_turn pick
-    turn-pass e p = rw (e, p)
-
-    pub turn-early : c ≡ Pass a → opened ≡ false → Bad ≡ in_turn first opened c
-    unfolding in_turn pick
-    turn-early e p = rw (e, p)
-
-pub ruleset turns = (turn-bad, turn-open, turn-late, turn-hear, turn-unheard, turn-pass, turn-early, rules)
+  pub turn-pass : (a : ℕ) → c ≡ Pass a → t ≡ opened → then_some t c ≡ in_turn first opened (Some c)
+  unfolding in_turn
+  turn-pass a e p = rw (e, p) (picked opened _)

@@ -3,19 +3,20 @@
 use mathlib.Core.Path.{◌≡◌, refl}
 use mathlib.Core.List.{List, [], ◌∷◌, ◌++◌, map}
 use Prim.Native.Nat.{ℕ}
+use Rattle.std.specs.Prelude.{Some, None}
 use Rattle.base.specs.Tests.{pick, every, between}
 use Rattle.ascii.specs.Text.{bytes_of}
 use Rattle.ascii.specs.Words.{begins, bytes_before}
 use Rattle.ascii.specs.Numbers.{is_digit, all_digits, is_number, value_from, value}
 use Rattle.ascii.specs.Decimals.{digits_of, decimal}
-use Rattle.lines.specs.declared.Command.TheVariants.{Open, Hear, Pass, Bad}
+use Rattle.lines.specs.declared.Command.TheVariants.{Open, Hear, Pass}
 use Rattle.lines.specs.Commands.{first_word, other_words, two_numbers, open_of, hear_of, pass_of, command_of}
 use Rattle.lines.specs.Output.{word_line, words_line, figure, open_line, message_line, no_line, bad_line, end_line}
 
 abbrev pub readable_lines : List (List ℕ)
 readable_lines = bytes_of "O 1 5040" ∷ bytes_of "H 1 5040" ∷ bytes_of "T 1000" ∷ bytes_of "O 65535 0" ∷ bytes_of "T 0000000001" ∷ []
 
-pub readable-lines : map command_of readable_lines ≡ Open 1 5040 ∷ Hear 1 5040 ∷ Pass 1000 ∷ Open 65535 0 ∷ Pass 1 ∷ []
+pub readable-lines : map command_of readable_lines ≡ Some (Open 1 5040) ∷ Some (Hear 1 5040) ∷ Some (Pass 1000) ∷ Some (Open 65535 0) ∷ Some (Pass 1) ∷ []
 unfolding pick every between bytes_before is_digit all_digits is_number value_from value begins first_word other_words two_numbers open_of hear_of pass_of command_of
 readable-lines = refl
 
@@ -36,7 +37,7 @@ unreadable_lines = []
     ∷ (bytes_of "T 1" ++ (0 ∷ []))
     ∷ []
 
-pub unreadable-lines : map command_of unreadable_lines ≡ map (λ l. Bad) unreadable_lines
+pub unreadable-lines : map command_of unreadable_lines ≡ map (λ l. None) unreadable_lines
 unfolding pick every between bytes_before is_digit all_digits is_number value_from value begins first_word other_words two_numbers open_of hear_of pass_of command_of
 unreadable-lines = refl
 

@@ -9,12 +9,13 @@ use lib.ListN.{length, take, drop, length-take, length-drop}
 use lib.Seq.{take_all, take-length, take-append-add, length-take-le}
 use lib.Dec.{leb, eqb}
 use borrow.Author.Tests.{leb-true, leb-false}
+use Rattle.std.specs.Prelude.{Option, None}
 use Rattle.base.specs.Tests.{pick, every}
 use Rattle.base.proofs.TestLaws.{every-stop, pick-false}
 use Rattle.ascii.specs.Words.{space, newline, bytes_before}
 use Rattle.ascii.specs.Numbers.{most_digits, is_number}
 use Rattle.ascii.proofs.NumberSteps.{not-two, long-no-number}
-use Rattle.lines.specs.declared.Command.TheVariants.{Bad}
+use Rattle.lines.specs.declared.Command.{Command}
 use Rattle.lines.specs.Commands.{first_word, other_words, two_numbers, open_of, hear_of, pass_of, command_of}
 use Rattle.lines.specs.Input.{kept_bytes, line_length, kept_line}
 
@@ -37,20 +38,20 @@ long-no-pair bs p = go (leb 11 stop) refl where
       let h : most_digits < length (drop (suc stop) bs) = omega (arith, length-drop (suc stop) bs) in
       not-two _ _ (long-no-number (drop (suc stop) bs) h)
 
-bad-either : (b : Bool) → pick b Bad Bad ≡ Bad
+bad-either : (b : Bool) → pick {A = Option Command} b None None ≡ None
 unfolding pick
 bad-either true = refl
 bad-either false = refl
 
-pub long-unreadable : (l : List ℕ) → kept_bytes ≤ length l → command_of l ≡ Bad
+pub long-unreadable : (l : List ℕ) → kept_bytes ≤ length l → command_of l ≡ None
 unfolding command_of open_of hear_of pass_of
 long-unreadable l p =
     let h : 21 < length (drop 2 l) = omega (arith, length-drop 2 l) in
     let n : most_digits < length (drop 2 l) = omega arith in
     let two : two_numbers (drop 2 l) ≡ false = long-no-pair (drop 2 l) h in
-    let o : open_of (drop 2 l) ≡ Bad = sym (pick-false _ _ _ _ (sym (every-stop _ _ two)) refl) in
-    let e : hear_of (drop 2 l) ≡ Bad = sym (pick-false _ _ _ _ two refl) in
-    let t : pass_of (drop 2 l) ≡ Bad = sym (pick-false _ _ _ _ (long-no-number (drop 2 l) n) refl) in
+    let o : open_of (drop 2 l) ≡ None = sym (pick-false _ _ _ _ (sym (every-stop _ _ two)) refl) in
+    let e : hear_of (drop 2 l) ≡ None = sym (pick-false _ _ _ _ two refl) in
+    let t : pass_of (drop 2 l) ≡ None = sym (pick-false _ _ _ _ (long-no-number (drop 2 l) n) refl) in
     simp (o, e, t, bad-either)
 
 pub command-of-kept : (l : List ℕ) → command_of (take kept_bytes l) ≡ command_of l

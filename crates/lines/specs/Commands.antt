@@ -4,7 +4,7 @@ use Rattle.base.specs.Tests.{pick, every}
 use Rattle.ascii.specs.Words.{space, begins, bytes_before}
 use Rattle.ascii.specs.Numbers.{is_number, value}
 use Rattle.lines.specs.declared.Command.{Command}
-use Rattle.lines.specs.declared.Command.TheVariants.{Open, Hear, Pass, Bad}
+use Rattle.lines.specs.declared.Command.TheVariants.{Open, Hear, Pass}
 use Rattle.lines.specs.Words.{open_command, hear_command, pass_command}
 
 -- The bytes before the first space, and those after it.
@@ -25,24 +25,24 @@ pair_of bs = pick (two_numbers bs) (Some (value (first_word bs), value (other_wo
 abbrev pub most_parts : ℕ
 most_parts = 65535
 
-unfoldable pub open_of : List ℕ → Command
-open_of bs = pick (every (two_numbers bs ∷ leb (value (first_word bs)) most_parts ∷ [])) (Open (value (first_word bs)) (value (other_words bs))) Bad
+unfoldable pub open_of : List ℕ → Option Command
+open_of bs = pick (every (two_numbers bs ∷ leb (value (first_word bs)) most_parts ∷ [])) (Some (Open (value (first_word bs)) (value (other_words bs)))) None
 
-unfoldable pub hear_of : List ℕ → Command
-hear_of bs = pick (two_numbers bs) (Hear (value (first_word bs)) (value (other_words bs))) Bad
+unfoldable pub hear_of : List ℕ → Option Command
+hear_of bs = pick (two_numbers bs) (Some (Hear (value (first_word bs)) (value (other_words bs)))) None
 
-unfoldable pub pass_of : List ℕ → Command
-pass_of bs = pick (is_number bs) (Pass (value bs)) Bad
+unfoldable pub pass_of : List ℕ → Option Command
+pass_of bs = pick (is_number bs) (Some (Pass (value bs))) None
 
-unfoldable pub command_of : List ℕ → Command
+unfoldable pub command_of : List ℕ → Option Command
 command_of line =
     pick (begins open_command line) (open_of (drop 2 line))
     (pick (begins hear_command line) (hear_of (drop 2 line))
-    (pick (begins pass_command line) (pass_of (drop 2 line)) Bad))
+    (pick (begins pass_command line) (pass_of (drop 2 line)) None))
 
 -- "Out of turn are an `O` on any line but the first, and `H` or `T` before an opening that was granted."
-unfoldable pub in_turn : (first opened : Bool) → Command → Command
-in_turn first opened (Open parts tempo) = pick first (Open parts tempo) Bad
-in_turn first opened (Hear event tempo) = pick opened (Hear event tempo) Bad
-in_turn first opened (Pass ms) = pick opened (Pass ms) Bad
-in_turn first opened Bad = Bad
+unfoldable pub in_turn : (first opened : Bool) → Option Command → Option Command
+in_turn first opened (Some (Open parts tempo)) = pick first (Some (Open parts tempo)) None
+in_turn first opened (Some (Hear event tempo)) = pick opened (Some (Hear event tempo)) None
+in_turn first opened (Some (Pass ms)) = pick opened (Some (Pass ms)) None
+in_turn first opened None = None

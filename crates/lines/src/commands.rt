@@ -21,38 +21,32 @@ fn read_pair(bytes: &[u8]) -> Option<(u64, u64)>
 }
 
 // "parts above 65,535 make the line unreadable"
-fn read_open(bytes: &[u8]) -> Command
+fn read_open(bytes: &[u8]) -> Option<Command>
     ensures { result ≡ open_of bytes.now }
 {
-    let Some((parts, tempo)) = read_pair(bytes) else {
-        return Command::Bad;
-    };
+    let (parts, tempo) = read_pair(bytes)?;
     if MOST_PARTS < parts {
-        return Command::Bad;
+        return None;
     }
-    Command::Open(parts, tempo)
+    Some(Command::Open(parts, tempo))
 }
 
-fn read_hear(bytes: &[u8]) -> Command
+fn read_hear(bytes: &[u8]) -> Option<Command>
     ensures { result ≡ hear_of bytes.now }
 {
-    let Some((event, tempo)) = read_pair(bytes) else {
-        return Command::Bad;
-    };
-    Command::Hear(event, tempo)
+    let (event, tempo) = read_pair(bytes)?;
+    Some(Command::Hear(event, tempo))
 }
 
-fn read_pass(bytes: &[u8]) -> Command
+fn read_pass(bytes: &[u8]) -> Option<Command>
     ensures { result ≡ pass_of bytes.now }
 {
-    let Some(ms) = read_number(bytes) else {
-        return Command::Bad;
-    };
-    Command::Pass(ms)
+    let ms = read_number(bytes)?;
+    Some(Command::Pass(ms))
 }
 
 // The line as it reads, whatever its turn.
-fn read_command(line: &[u8]) -> Command
+fn read_command(line: &[u8]) -> Option<Command>
     ensures { result ≡ command_of line.now }
 {
     if begins(b"O ", line) {
@@ -64,39 +58,23 @@ fn read_command(line: &[u8]) -> Command
     if begins(b"T ", line) {
         return read_pass(&line[2..]);
     }
-    Command::Bad
+    None
 }
 
 // "Out of turn are an `O` on any line but the first, and `H` or `T` before an opening that was granted."
-fn in_turn(first: bool, opened: bool, c: Command) -> Command
-    ensures { result ≡ in_turn first opened c }
+fn in_turn(first: bool, opened: bool, c: Command) -> Option<Command>
+    ensures { result ≡ in_turn first opened (Some c) }
 {
-    match c {
-        Command::Open(_, _) => {
-            if first {
-                return c;
-            }
-            Command::Bad
-        }
-        Command::Hear(_, _) => {
-            if opened {
-                return c;
-            }
-            Command::Bad
-        }
-        Command::Pass(_) => {
-            if opened {
-                return c;
-            }
-            Command::Bad
-        }
-        Command::Bad => Command::Bad,
-    }
+    let turn = match c {
+        Command::Open(_, _) => first,
+        Command::Hear(_, _) | Command::Pass(_) => opened,
+    };
+    turn.then_some(c)
 }
 
 // What the line asks for, where it is the first one or not, and a session was opened or not.
-pub fn command_in_turn(line: &[u8], first: bool, opened: bool) -> Command
+pub fn command_in_turn(line: &[u8], first: bool, opened: bool) -> Option<Command>
     ensures { result ≡ in_turn first opened (command_of line.now) }
 {
-    in_turn(first, opened, read_command(line))
+    in_turn(first, opened, read_command(line)?)
 }

@@ -9,13 +9,12 @@ mod commands;
 mod input;
 mod output;
 
-// A line read as a command; Bad where it can't be, or where it comes out of turn.
+// What a line asks for.
 #[derive(Clone, Copy)]
 pub enum Command {
     Open(u64, u64),
     Hear(u64, u64),
     Pass(u64),
-    Bad,
 }
 
 // What reading on in a chunk has come to: where the next line begins, how many bytes of the line are kept, and whether it has ended.

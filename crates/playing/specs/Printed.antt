@@ -1,5 +1,5 @@
 -- "The program `play` reads the file `score.bin` and commands from standard input": what is printed, from the bytes of the one and of the other, and a grace.
-use Rattle.std.specs.Prelude.{ℕ, ◌+◌, ◌/◌, ◌%◌, Bool, false, List, [], ◌∷◌, ◌++◌, eqb, Result, Ok, Err}
+use Rattle.std.specs.Prelude.{ℕ, ◌+◌, ◌/◌, ◌%◌, Bool, false, List, [], ◌∷◌, ◌++◌, eqb, Option, Some, None, Result, Ok, Err}
 use Rattle.score.specs.LookUp.{label_bytes}
 use Rattle.session.specs.declared.Refusal.{Refusal}
 use Rattle.session.specs.Layout.{memory_size, room_size}
@@ -11,7 +11,7 @@ use Rattle.sequencer.specs.declared.Figures.{Figures}
 use Rattle.sequencer.specs.Replies.{report_reply}
 use Rattle.sequencer.specs.Calls.{SendingResult, heard_note, passing_time, reported}
 use Rattle.lines.specs.declared.Command.{Command}
-use Rattle.lines.specs.declared.Command.TheVariants.{Open, Hear, Pass, Bad}
+use Rattle.lines.specs.declared.Command.TheVariants.{Open, Hear, Pass}
 use Rattle.lines.specs.Lines.{lines_of}
 use Rattle.lines.specs.Commands.{command_of, in_turn}
 use Rattle.lines.specs.Output.{open_line, message_line, no_line, bad_line, end_line}
@@ -57,11 +57,11 @@ carried_sending f o r =
     record { stand = record { memory = r.memory; room = r.room; opened = o }; output = sending_lines f r.memory r.room r.reply }
 
 -- "`bad L` for line L that it can't read or that comes out of turn". The run's opening is given its grace.
-unfoldable pub carried_by : (file : List ℕ) → (grace line : ℕ) → Stand → Command → Carried
-carried_by f g n s (Open parts tempo) = carried_opening s.room (opened s.memory f (record { parts = parts; tempo = tempo; grace = g }))
-carried_by f g n s (Hear event tempo) = carried_sending f s.opened (heard_note s.memory s.room event tempo)
-carried_by f g n s (Pass ms) = carried_sending f s.opened (passing_time s.memory s.room ms)
-carried_by f g n s Bad = record { stand = s; output = bad_line n }
+unfoldable pub carried_by : (file : List ℕ) → (grace line : ℕ) → Stand → Option Command → Carried
+carried_by f g n s (Some (Open parts tempo)) = carried_opening s.room (opened s.memory f (record { parts = parts; tempo = tempo; grace = g }))
+carried_by f g n s (Some (Hear event tempo)) = carried_sending f s.opened (heard_note s.memory s.room event tempo)
+carried_by f g n s (Some (Pass ms)) = carried_sending f s.opened (passing_time s.memory s.room ms)
+carried_by f g n s None = record { stand = s; output = bad_line n }
 
 -- Line n of the input. An opening is "first, once".
 unfoldable pub carried : (file : List ℕ) → (grace line : ℕ) → Stand → List ℕ → Carried

@@ -53,12 +53,11 @@ pub fn play_line(
         out.old mem.new room.new out.new result.opened result.count
         × (result.opened ≡ true → Accepted file.now) }
 {
-    let c = lines::command_in_turn(line, number == 1, opened);
-    match c {
-        Command::Open(parts, tempo) => open_line(file, mem, room, parts, tempo, grace, out),
-        Command::Hear(event, tempo) => hear_line(file, mem, room, event, tempo, out),
-        Command::Pass(ms) => pass_line(file, mem, room, ms, out),
-        Command::Bad => bad_line(number, opened, out),
+    match lines::command_in_turn(line, number == 1, opened) {
+        Some(Command::Open(parts, tempo)) => open_line(file, mem, room, parts, tempo, grace, out),
+        Some(Command::Hear(event, tempo)) => hear_line(file, mem, room, event, tempo, out),
+        Some(Command::Pass(ms)) => pass_line(file, mem, room, ms, out),
+        None => bad_line(number, opened, out),
     }
 }
 

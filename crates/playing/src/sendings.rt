@@ -36,10 +36,8 @@ fn put_messages(file: &[u8], clock: u64, room: &[u64], count: usize, out: &mut [
     ensures { Laid out.old 0 (sent_lines file.now clock (pairs_in count 0 room.now)) out.new result }
 {
     let mut at = 0;
-    let mut i = 0;
-    while i < count {
+    for i in 0..count {
         at = put_message(file, clock, room[2 * i], room[2 * i + 1], out, at);
-        i += 1;
     }
     at
 }

@@ -7,7 +7,7 @@ use Prim.Native.Nat.{ℕ, ◌≤◌}
 use native.Mathlib.Omega.{arith}
 use lib.Dec.{eqb}
 use borrow.Author.Tests.{ne_eqb}
-use Rattle.std.specs.Prelude.{Result, Ok, Err}
+use Rattle.std.specs.Prelude.{Option, Some, None, Result, Ok, Err}
 use Rattle.base.specs.Tests.{pick}
 use Rattle.base.proofs.TestLaws.{every-head, between-high}
 use Rattle.ascii.specs.Words.{begins, space, zero_digit, nine_digit}
@@ -25,7 +25,7 @@ use Rattle.session.specs.Replies.{refusal_row}
 use Rattle.sending.specs.Room.{Message}
 use Rattle.opening.specs.Replies.{opening_reply}
 use Rattle.lines.specs.declared.Command.{Command}
-use Rattle.lines.specs.declared.Command.TheVariants.{Open, Hear, Pass, Bad}
+use Rattle.lines.specs.declared.Command.TheVariants.{Open, Hear, Pass}
 use Rattle.lines.specs.Output.{word_line, words_line, open_line, figure, message_line}
 use Rattle.playing.specs.Printed.{Stand, sent_line, sent_lines, sending_lines, carried_opening, carried_sending, carried_by, carried}
 use Rattle.playing.proofs.OpenSteps.{refusal-numbered}
@@ -136,12 +136,12 @@ sending-silent f m room (Err x) = refl
 
 -- ---- every line
 
-command-told : (f : List ℕ) (g n : ℕ) (s : Stand) (c : Command) → tells_refusal (carried_by f g n s c).output ≡ refused_by f g n s c
+command-told : (f : List ℕ) (g n : ℕ) (s : Stand) (c : Option Command) → tells_refusal (carried_by f g n s c).output ≡ refused_by f g n s c
 unfolding carried_by carried_opening carried_sending refused_by tells_refusal begins pick word_line
-command-told f g n s (Open parts tempo) = opening-told _
-command-told f g n s (Hear event tempo) = sending-silent f _ _ _
-command-told f g n s (Pass ms) = sending-silent f _ _ _
-command-told f g n s Bad = refl
+command-told f g n s (Some (Open parts tempo)) = opening-told _
+command-told f g n s (Some (Hear event tempo)) = sending-silent f _ _ _
+command-told f g n s (Some (Pass ms)) = sending-silent f _ _ _
+command-told f g n s None = refl
 
 pub refusal-told : (f : List ℕ) (g n : ℕ) (s : Stand) (l : List ℕ) → tells_refusal (carried f g n s l).output ≡ opening_refused f g n s l
 unfolding carried opening_refused

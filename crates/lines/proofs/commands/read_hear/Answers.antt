@@ -3,8 +3,8 @@
 use Rattle.lines.proofs.CommandSteps.{figures}
 use Rattle.lines.proofs.commands.read_hear.Goals as goal
 
-pub returns-in_default : goal.returns-in_default
-returns-in_default c = search figures
+pub returns-in_err-event : goal.returns-in_err-event
+returns-in_err-event c = search figures
 
 pub returns : goal.returns
 returns c = search figures

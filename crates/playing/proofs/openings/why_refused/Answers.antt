@@ -3,9 +3,6 @@
 use Rattle.playing.proofs.OpenSteps.{whys}
 use Rattle.playing.proofs.openings.why_refused.Goals as goal
 
-pub check_file-requires : goal.check_file-requires
-check_file-requires c = search whys
-
 pub returns-then-nineteen : goal.returns-then-nineteen
 returns-then-nineteen c = search whys
 

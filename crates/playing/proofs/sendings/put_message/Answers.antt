@@ -3,14 +3,8 @@
 use Rattle.playing.proofs.SentSteps.{message}
 use Rattle.playing.proofs.sendings.put_message.Goals as goal
 
-pub accepted_label-label-requires : goal.accepted_label-label-requires
-accepted_label-label-requires c = search message
-
 pub message_line-requires : goal.message_line-requires
 message_line-requires c = search message
-
-pub shape_of-out : goal.shape_of-out
-shape_of-out c = search message
 
 pub returns : goal.returns
 returns c = search message

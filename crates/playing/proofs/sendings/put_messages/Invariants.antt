@@ -1,11 +1,7 @@
 -- The messages so far are printed, one behind the other, and there is room for those that are left.
 -- Assumes nothing.
-use Prim.Native.Nat.{◌-◌, ◌≤◌}
 use Rattle.playing.proofs.SentSteps.{Printing}
 use Rattle.playing.proofs.sendings.put_messages.Given as goal
 
 abbrev pub invariant-loop-i : goal.invariant-loop-i
-invariant-loop-i l = Printing l.file l.clock l.room l.initial.out l.i l.at l.out × (l.i ≤ l.count)
-
-abbrev pub decreases-loop-i : goal.decreases-loop-i
-decreases-loop-i l = l.count - l.i
+invariant-loop-i l = Printing l.file l.clock l.room l.initial.out l.i l.at l.out
