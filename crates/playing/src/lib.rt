@@ -8,10 +8,12 @@ ghost use Rattle.lines.specs.Output.{line_room, bad_line};
 ghost use Rattle.playing.specs.Printed.{carried, ending};
 ghost use Rattle.playing.specs.Inner.{Asked, Carries};
 
+use accepted::AcceptedFile;
 use lines::Command;
 use openings::open_line;
 use sendings::{figures_of, hear_line, pass_line};
 
+mod accepted;
 mod openings;
 mod sendings;
 
@@ -55,8 +57,15 @@ pub fn play_line(
 {
     match lines::command_in_turn(line, number == 1, opened) {
         Some(Command::Open(parts, tempo)) => open_line(file, mem, room, parts, tempo, grace, out),
-        Some(Command::Hear(event, tempo)) => hear_line(file, mem, room, event, tempo, out),
-        Some(Command::Pass(ms)) => pass_line(file, mem, room, ms, out),
+        Some(Command::Hear(event, tempo)) => hear_line(
+            AcceptedFile { bytes: file },
+            mem,
+            room,
+            event,
+            tempo,
+            out,
+        ),
+        Some(Command::Pass(ms)) => pass_line(AcceptedFile { bytes: file }, mem, room, ms, out),
         None => bad_line(number, opened, out),
     }
 }

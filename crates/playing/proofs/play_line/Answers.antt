@@ -10,13 +10,13 @@ open_line-requires c =
     let e : c.command_in_turn.result ≡ Some (Open c.in-Some-Open.parts c.in-Some-Open.tempo) = cc in
     search turns
 
-pub hear_line-requires : goal.hear_line-requires
-hear_line-requires c =
+pub invariant_of-hear_line : goal.invariant_of-hear_line
+invariant_of-hear_line c =
     let e : c.command_in_turn.result ≡ Some (Hear c.in-Some-Hear.event c.in-Some-Hear.tempo) = cc in
     search turns
 
-pub pass_line-requires : goal.pass_line-requires
-pass_line-requires c =
+pub invariant_of-pass_line : goal.invariant_of-pass_line
+invariant_of-pass_line c =
     let e : c.command_in_turn.result ≡ Some (Pass c.in-Some-Pass.ms) = cc in
     search turns
 

@@ -4,4 +4,4 @@ use Rattle.playing.proofs.SentSteps.{Printing}
 use Rattle.playing.proofs.sendings.put_messages.Given as goal
 
 abbrev pub invariant-loop-i : goal.invariant-loop-i
-invariant-loop-i l = Printing l.file l.clock l.room l.initial.out l.i l.at l.out
+invariant-loop-i l = Printing l.file.bytes.now l.clock l.room l.initial.out l.i l.at l.out
