@@ -1,10 +1,12 @@
 -- Each number, item, entry and file is laid as its parts are, one behind the other.
 -- Assumes nothing.
-use mathlib.Core.Path.{◌≡◌}
+use mathlib.Core.Path.{◌≡◌, refl}
 use mathlib.Core.List.{List, [], ◌∷◌, ◌++◌, append_assoc}
 use Prim.Native.Nat.{ℕ, ◌+◌, ◌*◌, ◌/◌, ◌%◌, ◌<◌}
 use native.Mathlib.Omega.{arith}
 use borrow.Author.Rules.{rules}
+use Rattle.std.proofs.Common.{w16, w32}
+use Rattle.std.specs.Int.{to_le_bytes}
 use Rattle.ascii.specs.Laying.{Laid}
 use Rattle.ascii.proofs.LayLaws.{laid-join}
 use Rattle.page.specs.declared.Item.{Item}
@@ -16,17 +18,26 @@ use Rattle.score.specs.Encode.{le16, le32, contents_bytes, item_bytes}
 use Rattle.filing.specs.Lasts.{last_at, Replaced}
 use Rattle.filing.specs.Pieces.{entry_of, body_of, filed}
 
+-- ---- a number's bytes
+
+pub bytes16 : (x : ℕ) → x < 65536 → to_le_bytes w16 x ≡ le16 x
+unfolding le16
+bytes16 x p =
+    let h : x / 256 % 256 ≡ x / 256 = omega arith in
+    rw h
+
+pub bytes32 : (x : ℕ) → x < 4294967296 → to_le_bytes w32 x ≡ le32 x
+unfolding le16 le32
+bytes32 x p =
+    let a : x % 65536 % 256 ≡ x % 256 = omega arith in
+    let b : x % 65536 / 256 ≡ x / 256 % 256 = omega arith in
+    let c : x / 65536 % 256 ≡ x / 65536 % 256 = refl in
+    let d : x / 65536 / 256 ≡ x / 16777216 % 256 = omega arith in
+    rw (a, b, d)
+
 -- ---- two behind one another
 
 module _ {o m n : List ℕ} {at a r : ℕ} where
-  pub lay16 : (x low high : ℕ) → Laid o at (low ∷ []) m a → Laid m a (high ∷ []) n r → low ≡ x % 256 → high ≡ x / 256 → Laid o at (le16 x) n r
-  unfolding le16
-  lay16 x low high p q e f = rw (← e, ← f) (laid-join o m n _ _ at a r p q)
-
-  pub lay32 : (x : ℕ) → Laid o at (le16 (x % 65536)) m a → Laid m a (le16 (x / 65536)) n r → Laid o at (le32 x) n r
-  unfolding le32
-  lay32 x p q = laid-join o m n _ _ at a r p q
-
   pub lay-entry : (from size : ℕ) → Laid o at (le16 from) m a → Laid m a (le16 size) n r → Laid o at (entry_of from size) n r
   unfolding entry_of
   lay-entry from size p q = laid-join o m n _ _ at a r p q
@@ -35,23 +46,17 @@ module _ {o m n : List ℕ} {at a r : ℕ} where
   unfolding body_of
   lay-body offset count p q = laid-join o m n _ _ at a r p q
 
-pub ruleset pairs = (lay16, lay32, lay-entry, lay-body, rules)
+pub ruleset pairs = (lay-entry, lay-body, rules)
 
 -- ---- an item
 
-pub lay-field : {o n : List ℕ} {at r : ℕ} (k k' : ℕ) → Laid o at (k' ∷ []) n r → k' ≡ k → Laid o at (k ∷ []) n r
-lay-field k k' p e = rw e at p
-
 module _ {o m₁ m₂ m₃ n : List ℕ} {at a b c r : ℕ} where
-  pub lay-words : (k s e p : ℕ) → Laid o at (k ∷ []) m₁ a → Laid m₁ a (s ∷ []) m₂ b → Laid m₂ b (e ∷ []) m₃ c → Laid m₃ c (p ∷ []) n r → Laid o at (k ∷ s ∷ e ∷ p ∷ []) n r
-  lay-words k s e p f g h i = laid-join o m₁ n _ _ at a r f (laid-join m₁ m₂ n _ _ a b r g (laid-join m₂ m₃ n _ _ b c r h i))
-
   pub lay-item : (i : Item) → Laid o at (i.kind ∷ i.synchrony ∷ i.error ∷ i.part ∷ []) m₁ a → Laid m₁ a (le32 i.delay.0) m₂ b → Laid m₂ b (le16 i.event) m₃ c
       → Laid m₃ c (le16 i.last) n r → Laid o at (item_bytes (i ∷ [])) n r
   unfolding item_bytes le32 le16
   lay-item i p q s t = laid-join o m₁ n _ _ at a r p (laid-join m₁ m₂ n _ _ a b r q (laid-join m₂ m₃ n _ _ b c r s t))
 
-pub ruleset items = (lay-field, lay-words, lay-item, rules)
+pub ruleset items = (lay-item, rules)
 
 -- ---- a file
 

@@ -1,16 +1,12 @@
--- The low half, then the high one.
+-- The bytes that are laid are those of the definition.
 -- Assumes nothing.
-use Rattle.filing.proofs.LayingSteps.{pairs}
+use mathlib.Core.Path.{◌∙◌}
+use native.Mathlib.Omega.{arith}
+use Rattle.filing.proofs.LayingSteps.{bytes32}
 use Rattle.filing.proofs.numbers.put32.Goals as goal
 
-pub put16-next-requires : goal.put16-next-requires
-put16-next-requires c = search pairs
-
-pub put16-requires : goal.put16-requires
-put16-requires c = search pairs
-
-pub shape_of-out : goal.shape_of-out
-shape_of-out c = search pairs
-
 pub returns : goal.returns
-returns c = search pairs
+returns c =
+    let e = c.to_le_bytes.ensures ∙ bytes32 c.args.n c.requires.1 in
+    let s = rw c.to_le_bytes.ensures at c.put_bytes.ensures.stop in
+    (rw e at c.put_bytes.ensures, omega (arith, s))

@@ -1,10 +1,7 @@
--- The four words, the delay, the event and the last field.
+-- The four bytes, the delay, the event and the last field.
 -- Assumes nothing.
 use Rattle.filing.proofs.LayingSteps.{items}
 use Rattle.filing.proofs.rows.put_item.Goals as goal
-
-pub put_words-at-requires : goal.put_words-at-requires
-put_words-at-requires c = search items
 
 pub put32-at-requires : goal.put32-at-requires
 put32-at-requires c = search items
