@@ -1,5 +1,6 @@
 -- What a line that was found makes and where its token stands, in the code's own terms; and that it is what the line itself makes.
 -- Assumes nothing.
+use Rattle.std.specs.Prelude.{Result, Ok, Err}
 use mathlib.Core.Path.{◌≡◌, refl, sym, ap, ◌∙◌}
 use mathlib.Core.Bool.{Bool, true, false}
 use mathlib.Core.List.{List}
@@ -10,50 +11,16 @@ use Rattle.base.specs.Tests.{pick}
 use Rattle.contents.specs.declared.Counts.{Counts}
 use Rattle.tokens.specs.declared.Token.{Token}
 use Rattle.tokens.specs.Tokens.{left_by, Read, got, stop, blanks, number}
-use Rattle.tokens.specs.Asked.{as_read, Reads, Passes}
+use Rattle.tokens.specs.Asked.{Reads, Passes}
+use Rattle.tokens.proofs.ShorterLaws.{read-got, read-stop, reads-within, fault-within}
 use Rattle.text.specs.Words.{any_number}
 use Rattle.script.specs.declared.Found.{Found}
-use Rattle.script.specs.declared.Found.TheVariants.{Heading, Message, Event, Part, Send, Group, Close, Fault}
+use Rattle.script.specs.declared.Found.TheVariants.{Heading, Message, Event, Part, Send, Group, Close}
 use Rattle.script.specs.Steps.{line_in, Fits, fits_message}
 use Rattle.origins.specs.Origins.{adds, token_in, is_listed}
 use Rattle.origins.specs.Aims.{added_by, listed_in, Begins}
 
 -- ---- what it adds
-
-module _ (f : Found) (r : Counts) where
-  pub add-heading : f ≡ Heading → r ≡ record { events = 0; items = 0; messages = 0; text = 0 } → r ≡ added_by f
-  unfolding added_by
-  add-heading e p = rw e p
-
-  pub add-message : (start size : ℕ) → f ≡ Message start size → r ≡ record { events = 0; items = 0; messages = 1; text = size } → r ≡ added_by f
-  unfolding added_by
-  add-message start size e p = rw e p
-
-  pub add-event : (g : ℕ) → f ≡ Event g → r ≡ record { events = 1; items = 0; messages = 0; text = 0 } → r ≡ added_by f
-  unfolding added_by
-  add-event g e p = rw e p
-
-  pub add-part : (n : ℕ) → f ≡ Part n → r ≡ record { events = 0; items = 0; messages = 0; text = 0 } → r ≡ added_by f
-  unfolding added_by
-  add-part n e p = rw e p
-
-  pub add-send : (d n : ℕ) → f ≡ Send d n → r ≡ record { events = 0; items = 1; messages = 0; text = 0 } → r ≡ added_by f
-  unfolding added_by
-  add-send d n e p = rw e p
-
-  pub add-group : (d w v : ℕ) → f ≡ Group d w v → r ≡ record { events = 0; items = 1; messages = 0; text = 0 } → r ≡ added_by f
-  unfolding added_by
-  add-group d w v e p = rw e p
-
-  pub add-close : f ≡ Close → r ≡ record { events = 0; items = 0; messages = 0; text = 0 } → r ≡ added_by f
-  unfolding added_by
-  add-close e p = rw e p
-
-  pub add-fault : f ≡ Fault → r ≡ record { events = 0; items = 0; messages = 0; text = 0 } → r ≡ added_by f
-  unfolding added_by
-  add-fault e p = rw e p
-
-pub ruleset adding = (add-heading, add-message, add-event, add-part, add-send, add-group, add-close, add-fault, rules)
 
 -- What is found and fits adds what its line adds.
 pub added-line : (t : List ℕ) (f : Found) → Fits t f → added_by f ≡ adds (line_in t f)
@@ -65,44 +32,8 @@ added-line t (Part n) p = refl
 added-line t (Send d n) p = refl
 added-line t (Group d w v) p = refl
 added-line t Close p = refl
-added-line t Fault p = refl
 
 -- ---- the end of the list
-
-module _ (f : Found) (next listed : ℕ) where
-  pub end-heading : f ≡ Heading → next ≡ pick (listed_in f) next listed
-  unfolding listed_in pick
-  end-heading e = rw e
-
-  pub end-message : (start size : ℕ) → f ≡ Message start size → next ≡ pick (listed_in f) next listed
-  unfolding listed_in pick
-  end-message start size e = rw e
-
-  pub end-event : (g : ℕ) → f ≡ Event g → listed ≡ pick (listed_in f) next listed
-  unfolding listed_in pick
-  end-event g e = rw e
-
-  pub end-part : (n : ℕ) → f ≡ Part n → listed ≡ pick (listed_in f) next listed
-  unfolding listed_in pick
-  end-part n e = rw e
-
-  pub end-send : (d n : ℕ) → f ≡ Send d n → listed ≡ pick (listed_in f) next listed
-  unfolding listed_in pick
-  end-send d n e = rw e
-
-  pub end-group : (d w v : ℕ) → f ≡ Group d w v → listed ≡ pick (listed_in f) next listed
-  unfolding listed_in pick
-  end-group d w v e = rw e
-
-  pub end-close : f ≡ Close → listed ≡ pick (listed_in f) next listed
-  unfolding listed_in pick
-  end-close e = rw e
-
-  pub end-fault : f ≡ Fault → listed ≡ pick (listed_in f) next listed
-  unfolding listed_in pick
-  end-fault e = rw e
-
-pub ruleset listing = (end-heading, end-message, end-event, end-part, end-send, end-group, end-close, end-fault, rules)
 
 pub listed-line : (t : List ℕ) (f : Found) → listed_in f ≡ is_listed (line_in t f)
 unfolding listed_in is_listed line_in
@@ -113,20 +44,22 @@ listed-line t (Part n) = refl
 listed-line t (Send d n) = refl
 listed-line t (Group d w v) = refl
 listed-line t Close = refl
-listed-line t Fault = refl
 
 -- ---- the token
 
--- What is left behind a number that was read, or where it was not, is told by the token.
-left-told : (t : List ℕ) (r : Token) (what : Read ℕ) → as_read t r ≡ what → drop r.next t ≡ left_by what
-unfolding as_read left_by pick
-left-told t r what e = go r.read refl where
-  go : (b : Bool) → r.read ≡ b → drop r.next t ≡ left_by what
-  go true p = let z : got r.value (drop r.next t) ≡ what = rw p at e in rw (← z)
-  go false p = let z : stop (drop r.next t) ≡ what = rw p at e in rw (← z)
+-- What is left behind a number that was read, or where it was not, is told by the answer.
+module _ (t : List ℕ) (at k : ℕ) (v : Result Token ℕ) (told : Reads t any_number (number any_number (drop at t)) v) where
+  pub quote-there : (n : Token) → v ≡ Ok n → Passes t n.next k → Begins t (blanks (left_by (number any_number (drop at t)))) k
+  unfolding left_by
+  quote-there n e q =
+      let z : number any_number (drop at t) ≡ got n.value (drop n.next t) = sym told.says ∙ read-got t v n e in
+      record { left = rw z (sym q.left); within = q.within }
 
-pub quote-there : (t : List ℕ) (at k : ℕ) (r : Token) → Reads t any_number (number any_number (drop at t)) r → Passes t r.next k → Begins t (blanks (left_by (number any_number (drop at t)))) k
-quote-there t at k r p q = record { left = sym (ap blanks (sym (left-told t r _ p.says)) ∙ q.left); within = q.within }
+  pub fault-there : (i : ℕ) → v ≡ Err i → Passes t i k → Begins t (blanks (left_by (number any_number (drop at t)))) k
+  unfolding left_by
+  fault-there i e q =
+      let z : number any_number (drop at t) ≡ stop (drop i t) = sym told.says ∙ read-stop t v i e in
+      record { left = rw z (sym q.left); within = q.within }
 
 module _ (t : List ℕ) (at : ℕ) (f : Found) where
   pub token-quote : (start size r : ℕ) → f ≡ Message start size → Begins t (blanks (left_by (number any_number (drop at t)))) r → Begins t (token_in (line_in t f) (drop at t)) r
@@ -158,10 +91,6 @@ module _ (t : List ℕ) (at : ℕ) (f : Found) where
     unfolding token_in line_in
     token-close e = rw e (record { left = refl; within = p })
 
-    pub token-fault : f ≡ Fault → Begins t (token_in (line_in t f) (drop at t)) at
-    unfolding token_in line_in
-    token-fault e = rw e (record { left = refl; within = p })
+pub ruleset quoting = (quote-there, fault-there, reads-within, fault-within, rules)
 
-pub ruleset quoting = (quote-there, rules)
-
-pub ruleset tokening = (token-quote, token-heading, token-event, token-part, token-send, token-group, token-close, token-fault, rules)
+pub ruleset tokening = (token-quote, token-heading, token-event, token-part, token-send, token-group, token-close, rules)

@@ -1,5 +1,6 @@
 -- From an entry to its line and column, in the code's own terms: what is looked for by the aim of an entry is its origin.
 -- Assumes nothing.
+use Rattle.std.specs.Prelude.{Option, Some, None, Result, Ok, Err}
 use mathlib.Core.Path.{◌≡◌, refl, sym, ap, ◌∙◌}
 use mathlib.Core.Bool.{Bool, true, false}
 use mathlib.Core.List.{List, [], ◌∷◌}
@@ -20,16 +21,12 @@ use Rattle.tokens.specs.Places.{place_behind}
 use Rattle.text.specs.declared.Stage.TheVariants.{Start}
 use Rattle.text.specs.Grammar.{script}
 use Rattle.text.specs.Said.{Reading, piece, unread, said}
-use Rattle.script.specs.declared.Tally.{Tally}
-use Rattle.script.specs.declared.Tally.TheVariants.{Counted, Faulty}
 use Rattle.script.specs.Tallies.{tally_of}
 use Rattle.script.proofs.BalancedLaws.{counted-said, counts-said}
 use Rattle.origins.specs.declared.aims.Table.{Table}
 use Rattle.origins.specs.declared.aims.Table.TheVariants.{Events}
 use Rattle.origins.specs.declared.aims.Aim.{Aim}
 use Rattle.origins.specs.declared.aims.Aim.TheVariants.{Nothing, TextEnd, ListEnd, Past}
-use Rattle.origins.specs.declared.seeking.Sought.{Sought}
-use Rattle.origins.specs.declared.seeking.Sought.TheVariants as sought
 use Rattle.origins.specs.Origins.{Placed, placed_lines, adds, count_of, token_in, is_listed, Origin, unmade, from, passing, list_end, contents_origins, origin_in, origin_of, place_of, place_in_text}
 use Rattle.origins.specs.Aims.{no_place, Says, event_aim, field_aims, aim_at, share_of, hits_in, aim_behind, ended_as, sought_in, origin_as, Lies, lies_nothing, lies_at, Finds}
 
@@ -86,15 +83,15 @@ module _ (t : List ℕ) (c : Counts) (ps : List Placed) where
 
 -- ---- what was found
 
-module _ (t : List ℕ) (f : Sought) where
-  pub place-nothing : (r : Place) → f ≡ sought.Nothing → r ≡ no_place → r ≡ place_of t (origin_as t f)
+module _ (t : List ℕ) (f : Option ℕ) where
+  pub place-nothing : (r : Place) → f ≡ None → r ≡ no_place → r ≡ place_of t (origin_as t f)
   unfolding place_of origin_as
   place-nothing r e p = rw e p
 
-  module _ (k : ℕ) (e : f ≡ sought.At k) (lies : Lies t f) where
+  module _ (k : ℕ) (e : f ≡ Some k) (lies : Lies t f) where
     pub found_within : k ≤ length t
     found_within = go lies e where
-      go : {g : Sought} → Lies t g → g ≡ sought.At k → k ≤ length t
+      go : {g : Option ℕ} → Lies t g → g ≡ Some k → k ≤ length t
       go lies_nothing q = let z : ◌≡◌ {A = ℕ} 0 1 = cc in absurd (omega arith)
       go (lies_at {k = m} p) q = let z : m ≡ k = cc in rw z at p
 
@@ -106,27 +103,27 @@ pub ruleset placing = (place-nothing, found_within, place-there, length-take-le,
 
 -- ---- the whole
 
-pub place_found : (t : List ℕ) (c : Counts) (place : ℕ) (e : Entry) (a : Aim) (f : Sought) (r : Place) → Says t c → e ≡ entry_at c place → a ≡ aim_at c e
+pub place_found : (t : List ℕ) (c : Counts) (place : ℕ) (e : Entry) (a : Aim) (f : Option ℕ) (r : Place) → Says t c → e ≡ entry_at c place → a ≡ aim_at c e
     → Finds t (sought_in a t (placed_lines Start t (script Start t))) f → r ≡ place_of t (origin_as t f) → r ≡ place_in_text t place
 unfolding place_in_text origin_of
 place_found t c place e a f r says p q found told =
     let o : origin_as t f ≡ origin_in t c (placed_lines Start t (script Start t)) (entry_at c place) = rw (← p, ← seek-entry t c (placed_lines Start t (script Start t)) e, ← q) found.says in
     rw (says.says, ← says.counts, ← o) told
 
-pub find-lies : (t : List ℕ) (what : Origin) (f : Sought) → Finds t what f → Lies t f
+pub find-lies : (t : List ℕ) (what : Origin) (f : Option ℕ) → Finds t what f → Lies t f
 find-lies t what f p = p.lies
 
 pub ruleset finding = (place_found, find-lies, rules)
 
-module _ (t : List ℕ) (tally : Tally) (told : tally ≡ tally_of (said t)) where
-  pub text_says : (c : Counts) → tally ≡ Counted c → Says t c
-  text_says c e = let z : Counted c ≡ tally_of (said t) = sym e ∙ told in record { says = counted-said t c z; counts = counts-said t c z }
+module _ (t : List ℕ) (tally : Result Counts ℕ) (told : tally ≡ tally_of (said t)) where
+  pub text_says : (c : Counts) → tally ≡ Ok c → Says t c
+  text_says c e = let z : Ok c ≡ tally_of (said t) = sym e ∙ told in record { says = counted-said t c z; counts = counts-said t c z }
 
-  pub text-faulty : (at place : ℕ) (r : Place) → tally ≡ Faulty at → r ≡ no_place → r ≡ place_in_text t place
+  pub text-faulty : (at place : ℕ) (r : Place) → tally ≡ Err at → r ≡ no_place → r ≡ place_in_text t place
   unfolding place_in_text origin_of place_of tally_of
   text-faulty at place r e p = go (said t) refl where
     go : (s : Reading) → said t ≡ s → r ≡ place_of t (origin_of t (said t) place)
     go (unread k) q = rw q p
-    go (piece x) q = let z : Faulty at ≡ tally_of (piece x) = sym e ∙ rw q at told in let y : ◌≡◌ {A = ℕ} 0 1 = cc in absurd (omega arith)
+    go (piece x) q = let z : Err at ≡ tally_of (piece x) = sym e ∙ rw q at told in let y : ◌≡◌ {A = ℕ} 0 1 = cc in absurd (omega arith)
 
 pub ruleset telling = (text_says, text-faulty, rules)

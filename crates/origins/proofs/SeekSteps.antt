@@ -1,5 +1,6 @@
 -- Each step of the loop over the lines, in the code's own terms. The invariant: what is looked for among the lines left is what was looked for among all of them.
 -- Assumes nothing.
+use Rattle.std.specs.Prelude.{Option, Some, None, Result, Ok, Err}
 use mathlib.Core.Path.{◌≡◌, refl, sym, ap, ◌∙◌}
 use mathlib.Core.Bool.{Bool, true, false}
 use mathlib.Core.List.{List}
@@ -14,15 +15,13 @@ use Rattle.text.specs.declared.Stage.{Stage}
 use Rattle.text.specs.declared.Stage.TheVariants.{Start}
 use Rattle.text.specs.Grammar.{line, is_over, script}
 use Rattle.script.specs.declared.Step.{Step}
-use Rattle.script.specs.Steps.{line_in, is_fault, Lines}
+use Rattle.script.specs.Steps.{line_in, Lines}
 use Rattle.script.specs.Stages.{stage_after, held}
 use Rattle.script.proofs.StageSteps.{held_after, after_line}
-use Rattle.script.proofs.ScriptSteps.{found-line, script-over, script-fault, script-more, read-line, line_on, line-less}
+use Rattle.script.proofs.ScriptSteps.{found-line, script-over, script-fault, line-fits, line-within, script-more, read-line, line_on, line-less}
 use Rattle.origins.specs.declared.aims.Aim.{Aim}
 use Rattle.origins.specs.declared.aims.Aim.TheVariants.{Nothing, TextEnd, ListEnd, Past}
 use Rattle.origins.specs.declared.aims.Table.{Table}
-use Rattle.origins.specs.declared.seeking.Sought.{Sought}
-use Rattle.origins.specs.declared.seeking.Sought.TheVariants as sought
 use Rattle.origins.specs.Origins.{placed, placed_lines, token_in, is_listed, Origin, from}
 use Rattle.origins.specs.Aims.{share_of, hits_in, aim_behind, ended_as, sought_in, added_by, listed_in, Begins, origin_as, lies_nothing, lies_at, Finds}
 use Rattle.origins.proofs.LineSteps.{added-line, listed-line}
@@ -30,19 +29,19 @@ use Rattle.origins.proofs.LineSteps.{added-line, listed-line}
 -- ---- where the lines are over
 
 module _ (t : List ℕ) (a : Aim) (listed : ℕ) where
-  pub ended-nothing : a ≡ Nothing → Finds t (ended_as a (drop listed t)) sought.Nothing
+  pub ended-nothing : a ≡ Nothing → Finds t (ended_as a (drop listed t)) None
   unfolding ended_as origin_as
   ended-nothing e = rw e (record { says = refl; lies = lies_nothing })
 
-  pub ended-text : a ≡ TextEnd → Finds t (ended_as a (drop listed t)) (sought.At (length t))
+  pub ended-text : a ≡ TextEnd → Finds t (ended_as a (drop listed t)) (Some (length t))
   unfolding ended_as origin_as
   ended-text e = rw e (record { says = ap from (drop_of_length-le t {i = length t} (omega arith)); lies = lies_at {k = length t} (omega arith) })
 
-  pub ended-list : a ≡ ListEnd → listed ≤ length t → Finds t (ended_as a (drop listed t)) (sought.At listed)
+  pub ended-list : a ≡ ListEnd → listed ≤ length t → Finds t (ended_as a (drop listed t)) (Some listed)
   unfolding ended_as origin_as
   ended-list e p = rw e (record { says = refl; lies = lies_at p })
 
-  pub ended-past : (k : Table) (n : ℕ) → a ≡ Past k n → Finds t (ended_as a (drop listed t)) sought.Nothing
+  pub ended-past : (k : Table) (n : ℕ) → a ≡ Past k n → Finds t (ended_as a (drop listed t)) None
   unfolding ended_as origin_as
   ended-past k n e = rw e (record { says = refl; lies = lies_nothing })
 
@@ -71,25 +70,25 @@ unfolding held
 seek-start t a = record { total = refl; within = omega arith; behind = omega arith; few = omega arith }
 
 module _ (t : List ℕ) (goal : Origin) (at from₁ : ℕ) (stage : Stage) (a : Aim) (listed : ℕ) (inv : Seeking t goal at stage a listed) (passed : Passes t at from₁) (over : Bool) (asked : over ≡ is_over stage (drop from₁ t)) where
-  pub seek-over : (r : Sought) → over ≡ true → Finds t (ended_as a (drop listed t)) r → Finds t goal r
+  pub seek-over : (r : Option ℕ) → over ≡ true → Finds t (ended_as a (drop listed t)) r → Finds t goal r
   unfolding placed_lines sought_in
   seek-over r p f =
       let e : ended_as a (drop listed t) ≡ goal = rw (script-over t at from₁ stage passed (sym asked ∙ p)) at inv.total in
       record { says = f.says ∙ e; lies = f.lies }
 
-  module _ (no : over ≡ false) (s : Step) (read : Lines t (line stage (drop from₁ t)) s) (bad : Bool) (told : bad ≡ is_fault s.found) where
-    pub seek-fault : (r : Sought) → bad ≡ true → Finds t (ended_as a (drop listed t)) r → Finds t goal r
+  module _ (no : over ≡ false) (v : Result Step ℕ) (read : Lines t (line stage (drop from₁ t)) v) where
+    pub seek-fault : (r : Option ℕ) (i : ℕ) → v ≡ Err i → Finds t (ended_as a (drop listed t)) r → Finds t goal r
     unfolding placed_lines sought_in
-    seek-fault r p f =
-        let e : ended_as a (drop listed t) ≡ goal = rw (script-fault t at from₁ stage passed s read (sym asked ∙ no) (sym told ∙ p)) at inv.total in
+    seek-fault r i k f =
+        let e : ended_as a (drop listed t) ≡ goal = rw (script-fault t at from₁ stage passed v read i k (sym asked ∙ no)) at inv.total in
         record { says = f.says ∙ e; lies = f.lies }
 
-    module _ (p : bad ≡ false) where
+    module _ (s : Step) (is : v ≡ Ok s) where
       pub seek-less : length t - s.next < length t - at
-      seek-less = line-less t at from₁ stage passed s read (sym told ∙ p)
+      seek-less = line-less t at from₁ stage passed v read s is
 
       pub seek-held : length t < 2 ^ 64 → held stage + 1 < 2 ^ 64
-      seek-held q = omega (arith, line_on t at from₁ stage passed s read (sym told ∙ p), inv.few, read.within)
+      seek-held q = omega (arith, line_on t at from₁ stage passed v read s is, inv.few, (line-within t at from₁ stage passed v read s is))
 
       module _ (c : Counts) (share : ℕ) (hit : Bool) (adding : c ≡ added_by s.found) (sharing : share ≡ share_of a c) (hitting : hit ≡ hits_in a share) where
         -- What was looked for among the lines left, by the first of them.
@@ -98,11 +97,11 @@ module _ (t : List ℕ) (goal : Origin) (at from₁ : ℕ) (stage : Stage) (a : 
             (placed_lines (stage_after s.found stage) (drop s.next t) (script (stage_after s.found stage) (drop s.next t)))) ≡ goal
         unfolding placed_lines placed sought_in
         first =
-            let a₁ = after_line t s.found (line_in t s.found) (drop s.next t) (drop s.next t) stage (found-line t s.found (drop s.next t) (sym told ∙ p)) in
-            rw (hitting, sharing, adding, added-line t s.found read.fits, a₁)
-            (rw (script-more t at from₁ stage passed s read (sym asked ∙ no) (sym told ∙ p), read-line t at from₁ stage passed s read (sym told ∙ p), passed.left, a₁) at inv.total)
+            let a₁ = after_line t s.found (line_in t s.found) (drop s.next t) (drop s.next t) stage (found-line t s.found (drop s.next t)) in
+            rw (hitting, sharing, adding, added-line t s.found (line-fits t at from₁ stage passed v read s is), a₁)
+            (rw (script-more t at from₁ stage passed v read s is (sym asked ∙ no), read-line t at from₁ stage passed v read s is, passed.left, a₁) at inv.total)
 
-        pub seek_hit : (k : ℕ) → hit ≡ true → Begins t (token_in (line_in t s.found) (drop from₁ t)) k → Finds t goal (sought.At k)
+        pub seek_hit : (k : ℕ) → hit ≡ true → Begins t (token_in (line_in t s.found) (drop from₁ t)) k → Finds t goal (Some k)
         unfolding origin_as pick
         seek_hit k h b =
             let e : from (token_in (line_in t s.found) (drop from₁ t)) ≡ goal = rw h at first in
@@ -118,9 +117,9 @@ module _ (t : List ℕ) (goal : Origin) (at from₁ : ℕ) (stage : Stage) (a : 
             rw (e, f)
             (record {
               total = rw ends rest;
-              within = read.within;
-              behind = rw g (pick-within (listed_in s.found) s.next listed (length t) read.within inv.behind);
-              few = omega (arith, line_on t at from₁ stage passed s read (sym told ∙ p), inv.few, held_after s.found stage);
+              within = (line-within t at from₁ stage passed v read s is);
+              behind = rw g (pick-within (listed_in s.found) s.next listed (length t) (line-within t at from₁ stage passed v read s is) inv.behind);
+              few = omega (arith, line_on t at from₁ stage passed v read s is, inv.few, held_after s.found stage);
             })
 
 pub ruleset seeking = (seek-start, seek-over, seek-fault, seek-less, seek-held, seek_hit, seek-step, rules)

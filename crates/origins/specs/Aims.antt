@@ -1,5 +1,5 @@
 -- What is asked of the functions that look for what made a byte: their answers in the words of the definitions.
-use Rattle.std.specs.Prelude.{ℕ, ◌-◌, ◌≤◌, ◌≡◌, Bool, true, false, List, [], ◌∷◌, eqb, ltb, length, drop, get_or}
+use Rattle.std.specs.Prelude.{ℕ, ◌-◌, ◌≤◌, ◌≡◌, Bool, true, false, List, [], ◌∷◌, eqb, ltb, length, drop, get_or, Option, Some, None}
 use Rattle.base.specs.Tests.{pick}
 use Rattle.contents.specs.declared.Counts.{Counts}
 use Rattle.contents.specs.declared.entries.Entry.{Entry}
@@ -11,12 +11,10 @@ use Rattle.text.specs.declared.Stage.TheVariants.{Start}
 use Rattle.text.specs.Grammar.{script}
 use Rattle.text.specs.Said.{piece_of, piece, said}
 use Rattle.script.specs.declared.Found.{Found}
-use Rattle.script.specs.declared.Found.TheVariants.{Heading, Message, Event, Part, Send, Group, Close, Fault}
+use Rattle.script.specs.declared.Found.TheVariants.{Heading, Message, Event, Part, Send, Group, Close}
 use Rattle.origins.specs.declared.aims.Table.TheVariants.{Events, Items, Messages, Text}
 use Rattle.origins.specs.declared.aims.Aim.{Aim}
 use Rattle.origins.specs.declared.aims.Aim.TheVariants.{Nothing, TextEnd, ListEnd, Past}
-use Rattle.origins.specs.declared.seeking.Sought.{Sought}
-use Rattle.origins.specs.declared.seeking.Sought.TheVariants as sought
 use Rattle.origins.specs.Origins.{Placed, adds, count_of, token_in, is_listed, Origin, unmade, from}
 
 -- ---- a text without a fault
@@ -99,9 +97,8 @@ added_by (Part n) = record { events = 0; items = 0; messages = 0; text = 0 }
 added_by (Send d n) = record { events = 0; items = 1; messages = 0; text = 0 }
 added_by (Group d w v) = record { events = 0; items = 1; messages = 0; text = 0 }
 added_by Close = record { events = 0; items = 0; messages = 0; text = 0 }
-added_by Fault = record { events = 0; items = 0; messages = 0; text = 0 }
 
--- A fault is no line of the list.
+-- It is a line of the list.
 unfoldable pub listed_in : Found → Bool
 listed_in Heading = true
 listed_in (Message start size) = true
@@ -110,7 +107,6 @@ listed_in (Part n) = false
 listed_in (Send d n) = false
 listed_in (Group d w v) = false
 listed_in Close = false
-listed_in Fault = false
 
 -- These bytes begin here.
 pub record Begins (t : List ℕ) (what : List ℕ) (r : ℕ) : Type 0 where
@@ -119,15 +115,15 @@ pub record Begins (t : List ℕ) (what : List ℕ) (r : ℕ) : Type 0 where
 
 -- ---- what was found
 
-unfoldable pub origin_as : List ℕ → Sought → Origin
-origin_as t sought.Nothing = unmade
-origin_as t (sought.At k) = from (drop k t)
+unfoldable pub origin_as : List ℕ → Option ℕ → Origin
+origin_as t None = unmade
+origin_as t (Some k) = from (drop k t)
 
 -- It lies in the text.
-pub data Lies (t : List ℕ) : Sought → Type 0 where
-  lies_nothing : Lies t sought.Nothing
-  lies_at : {k : ℕ} → k ≤ length t → Lies t (sought.At k)
+pub data Lies (t : List ℕ) : Option ℕ → Type 0 where
+  lies_nothing : Lies t None
+  lies_at : {k : ℕ} → k ≤ length t → Lies t (Some k)
 
-pub record Finds (t : List ℕ) (what : Origin) (r : Sought) : Type 0 where
+pub record Finds (t : List ℕ) (what : Origin) (r : Option ℕ) : Type 0 where
   pub says : origin_as t r ≡ what
   pub lies : Lies t r

@@ -9,8 +9,8 @@ ghost use Rattle.origins.specs.Aims.{no_place, Says, origin_as, Lies};
 
 use aims::aim_at;
 use contents::{Counts, entry_at};
-use script::{Tally, tally_text};
-use seeking::{Sought, seek};
+use script::tally_text;
+use seeking::seek;
 use tokens::{Place, place_behind};
 
 mod aims;
@@ -24,13 +24,13 @@ fn no_place() -> Place
 }
 
 // The line and column of what was found.
-fn place_of(text: &[u8], found: Sought) -> Place
+fn place_of(text: &[u8], found: Option<usize>) -> Place
     requires { Lies text.now found }
     ensures { result ≡ place_of text.now (origin_as text.now found) }
 {
     match found {
-        Sought::Nothing => no_place(),
-        Sought::At(at) => place_behind(&text[..at]),
+        None => no_place(),
+        Some(at) => place_behind(&text[..at]),
     }
 }
 
@@ -49,9 +49,8 @@ fn place_by(text: &[u8], c: Counts, place: usize) -> Place
 pub fn place_in_text(text: &[u8], place: usize) -> Place
     ensures { result ≡ place_in_text text.now place }
 {
-    let tally = tally_text(text);
-    match tally {
-        Tally::Counted { counts } => place_by(text, counts, place),
-        Tally::Faulty { at: _ } => no_place(),
+    match tally_text(text) {
+        Ok(counts) => place_by(text, counts, place),
+        Err(_) => no_place(),
     }
 }

@@ -23,6 +23,7 @@ fn counts(events: usize, items: usize, messages: usize, text: usize) -> Counts
 }
 
 // How much the line adds to the counts.
+#[tactic(auto, unfolding(crate::specs::Aims::added_by))]
 pub fn added_by(found: Found) -> Counts
     ensures { result ≡ added_by found }
 {
@@ -41,11 +42,11 @@ pub fn added_by(found: Found) -> Counts
             error: _,
         } => counts(0, 1, 0, 0),
         Found::Close => counts(0, 0, 0, 0),
-        Found::Fault => counts(0, 0, 0, 0),
     }
 }
 
 // Where the message list ends, as far as it was read: behind this line where it is one of the list, else where it ended before.
+#[tactic(auto, unfolding(crate::specs::Aims::listed_in, base::specs::Tests::pick))]
 pub fn list_end(found: Found, listed: usize, next: usize) -> usize
     ensures { result ≡ pick (listed_in found) next listed }
 {
@@ -64,7 +65,6 @@ pub fn list_end(found: Found, listed: usize, next: usize) -> usize
             error: _,
         } => listed,
         Found::Close => listed,
-        Found::Fault => listed,
     }
 }
 
@@ -73,8 +73,10 @@ fn quote_at(text: &[u8], at: usize) -> usize
     requires { at ≤ length text.now }
     ensures { Begins text.now (blanks (left_by (number any_number (drop at text.now)))) result }
 {
-    let n = number(text, at, ANY_NUMBER);
-    past_blanks(text, n.next)
+    match number(text, at, ANY_NUMBER) {
+        Ok(n) => past_blanks(text, n.next),
+        Err(fault) => past_blanks(text, fault),
+    }
 }
 
 // "the event's `event`, the item's first byte, the label's quote" of the line that stands from `at` on.
@@ -97,6 +99,5 @@ pub fn token_at(text: &[u8], at: usize, found: Found) -> usize
             error: _,
         } => at,
         Found::Close => at,
-        Found::Fault => at,
     }
 }

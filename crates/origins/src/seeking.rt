@@ -7,32 +7,25 @@ ghost use Rattle.origins.specs.Aims.{ended_as, sought_in, Finds};
 
 use crate::aims::{Aim, aim_behind, hits, share_of};
 use crate::making::{added_by, list_end, token_at};
-use script::{after, is_fault, is_over, line};
+use script::{after, is_over, line};
 use text::Stage;
 use tokens::past_blanks;
 
-// Where what is looked for stands.
-#[derive(Clone, Copy)]
-pub enum Sought {
-    Nothing,
-    At(usize),
-}
-
 // The lines are over, and those of the list end here.
-fn ended(text: &[u8], aim: Aim, listed: usize) -> Sought
+fn ended(text: &[u8], aim: Aim, listed: usize) -> Option<usize>
     requires { listed ≤ length text.now }
     ensures { Finds text.now (ended_as aim (drop listed text.now)) result }
 {
     match aim {
-        Aim::Nothing => Sought::Nothing,
-        Aim::TextEnd => Sought::At(text.len()),
-        Aim::ListEnd => Sought::At(listed),
-        Aim::Past { table: _, n: _ } => Sought::Nothing,
+        Aim::Nothing => None,
+        Aim::TextEnd => Some(text.len()),
+        Aim::ListEnd => Some(listed),
+        Aim::Past { table: _, n: _ } => None,
     }
 }
 
-// What is looked for among the lines of the text, up to its end or its first fault.
-pub fn seek(text: &[u8], wanted: Aim) -> Sought
+// Where what is looked for stands among the lines of the text, up to its end or its first fault.
+pub fn seek(text: &[u8], wanted: Aim) -> Option<usize>
     ensures { Finds text.now (sought_in wanted text.now (placed_lines Start text.now (script Start text.now))) result }
 {
     let mut at = 0;
@@ -44,18 +37,16 @@ pub fn seek(text: &[u8], wanted: Aim) -> Sought
         if is_over(text, from, stage) {
             return ended(text, aim, listed);
         }
-        let s = line(text, from, stage);
-        let found = s.found;
-        if is_fault(found) {
+        let Ok(s) = line(text, from, stage) else {
             return ended(text, aim, listed);
-        }
-        let share = share_of(aim, added_by(found));
+        };
+        let share = share_of(aim, added_by(s.found));
         if hits(aim, share) {
-            return Sought::At(token_at(text, from, found));
+            return Some(token_at(text, from, s.found));
         }
         at = s.next;
         aim = aim_behind(aim, share);
-        listed = list_end(found, listed, at);
-        stage = after(found, stage);
+        listed = list_end(s.found, listed, at);
+        stage = after(s.found, stage);
     }
 }

@@ -1,5 +1,6 @@
 -- A text that was counted has no fault, and its braces match: each stage takes its own lines only, and where the lines end no group is open.
 -- Assumes nothing.
+use Rattle.std.specs.Prelude.{Ok, Err}
 use mathlib.Core.Path.{◌≡◌, refl}
 use mathlib.Core.Bool.{Bool, true, false}
 use mathlib.Core.List.{List, [], ◌∷◌}
@@ -20,7 +21,6 @@ use Rattle.text.specs.Words.{messages_word, event_word, part_word, send_word, gr
 use Rattle.text.specs.Grammar.{Line, heading, message, event, part, send, group, close, past_word, named, entry, timed, parted, sent, opened, synchrony_at, error_at, erring, grouped, action, item, closed, line, after, further, deeper, shallower, may_end, is_over, Script, done, more, fault, follow, script}
 use Rattle.text.specs.Said.{piece_of, Reading, piece, unread, told, said}
 use Rattle.text.proofs.ScriptLaws.{line-shorter, script-follow}
-use Rattle.script.specs.declared.Tally.TheVariants.{Counted, Faulty}
 use Rattle.script.specs.Tallies.{tally_of}
 use Rattle.script.specs.Balanced.{BeforeEvent, behind_list, behind_event, behind_items, BeforePart, first_part, next_part, Balanced, ends, heads, lists, times, parts, sends, opens, closes}
 
@@ -196,7 +196,7 @@ balanced-told size p (sends b) = balanced-told size p b
 balanced-told size p (opens b) = balanced-told size p b
 balanced-told size p (closes b) = balanced-told size p b
 
-module _ (t : List ℕ) (c : Counts) (counted : Counted c ≡ tally_of (said t)) where
+module _ (t : List ℕ) (c : Counts) (counted : Ok c ≡ tally_of (said t)) where
   -- The lines of a text that was counted have no fault, and their braces match.
   pub counted-balanced : Balanced Start (script Start t)
   unfolding said tally_of
@@ -213,7 +213,7 @@ module _ (t : List ℕ) (c : Counts) (counted : Counted c ≡ tally_of (said t))
   -- The counts are those of this piece.
   pub counts-said : c ≡ counts_in (piece_of (script Start t))
   unfolding tally_of
-  counts-said = let f : Counted c ≡ Counted (counts_in (piece_of (script Start t))) = rw counted-said at counted in let z : c ≡ counts_in (piece_of (script Start t)) = cc in z
+  counts-said = let f : Ok c ≡ Ok (counts_in (piece_of (script Start t))) = rw counted-said at counted in let z : c ≡ counts_in (piece_of (script Start t)) = cc in z
 
 -- ---- a text with a fault
 
@@ -224,9 +224,9 @@ told-within size p (more l s) at e = told-within size p s at e
 told-within size p (fault left) at e = let z : size - length left ≡ at = cc in omega arith
 
 -- It lies in the text, or at its end.
-pub fault-within : (t : List ℕ) (at : ℕ) → Faulty at ≡ tally_of (said t) → at ≤ length t
+pub fault-within : (t : List ℕ) (at : ℕ) → Err at ≡ tally_of (said t) → at ≤ length t
 unfolding said tally_of
 fault-within t at e = go (said t) refl where
   go : (r : Reading) → said t ≡ r → at ≤ length t
-  go (piece p) q = let z : Faulty at ≡ tally_of (piece p) = rw q at e in let y : ◌≡◌ {A = ℕ} 0 1 = cc in absurd (omega arith)
-  go (unread k) q = let z : Faulty at ≡ Faulty k = rw q at e in let y : at ≡ k = cc in rw y (told-within (length t) _ _ k q)
+  go (piece p) q = let z : Err at ≡ tally_of (piece p) = rw q at e in let y : ◌≡◌ {A = ℕ} 0 1 = cc in absurd (omega arith)
+  go (unread k) q = let z : Err at ≡ Err k = rw q at e in let y : at ≡ k = cc in rw y (told-within (length t) _ _ k q)

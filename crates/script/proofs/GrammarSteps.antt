@@ -1,5 +1,6 @@
 -- What may stand where, in the code's own terms: the text's end, and each line that a stage takes.
 -- Assumes nothing.
+use Rattle.std.specs.Prelude.{Result, Ok, Err}
 use mathlib.Core.Path.{◌≡◌, refl, sym, ◌∙◌}
 use mathlib.Core.Bool.{Bool, true, false, not}
 use mathlib.Core.List.{List, []}
@@ -21,7 +22,7 @@ use Rattle.text.specs.Words.{messages_word, event_word, part_word}
 use Rattle.text.specs.Grammar.{entry, timed, parted, item, closed, line, may_end, is_over}
 use Rattle.script.specs.declared.Found.TheVariants.{Heading}
 use Rattle.script.specs.declared.Step.{Step}
-use Rattle.script.specs.Steps.{PassesWord, fault_at, line_of, as_line, Lines, fits_heading}
+use Rattle.script.specs.Steps.{PassesWord, line_of, as_line, ends_at, Lines, fits_heading, fits_read}
 use Rattle.script.proofs.WordSteps.{event-stands, part-stands}
 use Rattle.script.proofs.LineSteps.{fault-lines}
 
@@ -57,27 +58,27 @@ pub ruleset endings = (end-start, end_list, end-timed, end-playing, over-not, ov
 -- ---- the word `messages`
 
 module _ (t : List ℕ) (at : ℕ) (start : at ≤ length t) (s : Bool) (told : s ≡ is_word messages_word (drop at t)) where
-  pub heading-none : (r : Step) → not s ≡ true → r ≡ fault_at at → Lines t (line Start (drop at t)) r
+  pub heading-none : not s ≡ true → Lines t (line Start (drop at t)) (Err at)
   unfolding line pick
-  heading-none r p e = fault-lines t _ at r start (rw (told-false s _ told p)) e
+  heading-none p = fault-lines t _ at start (rw (told-false s _ told p))
 
   module _ (p : not s ≡ false) where
     pub heading-room : at + 8 ≤ length t
     heading-room = omega (arith, (word-behind messages_word (drop at t) (told-true s _ told p)).1, length-drop at t)
 
-    pub heading-read : Lines t (line Start (drop at t)) (record { found = Heading; next = at + 8 })
-    unfolding line pick as_line line_of
+    pub heading-read : Lines t (line Start (drop at t)) (Ok (record { found = Heading; next = at + 8 }))
+    unfolding line pick as_line ends_at line_of
     heading-read =
         let w = told-true s _ told p in
         let b : behind is_letter (drop at t) ≡ drop (at + 8) t = (word-behind messages_word (drop at t) w).0 ∙ drop-drop 8 at t in
-        record { says = rw (w, b); within = heading-room; fits = fits_heading }
+        record { says = rw (w, b); within = heading-room; fits = fits_read fits_heading }
 
 pub ruleset headings = (heading-none, heading-room, heading-read, rules)
 
 -- ---- events, parts and what stands beside them
 
 module _ (t : List ℕ) (at : ℕ) (s : Bool) (told : s ≡ is_word event_word (drop at t)) where
-  module _ (k : ℕ) (p : s ≡ true) (b : PassesWord t at k) (r : Step) (l : Lines t (timed (drop k t)) r) where
+  module _ (k : ℕ) (p : s ≡ true) (b : PassesWord t at k) (r : Result Step ℕ) (l : Lines t (timed (drop k t)) r) where
     pub listed-event : (next : ℕ) → Lines t (line (Listing next) (drop at t)) r
     unfolding line pick
     listed-event next = let w : is_word event_word (drop at t) ≡ true = sym told ∙ p in rw (w, b.left) l
@@ -91,12 +92,12 @@ module _ (t : List ℕ) (at : ℕ) (s : Bool) (told : s ≡ is_word event_word (
     played-event = let w : is_word event_word (drop at t) ≡ true = sym told ∙ p in rw (w, b.left) l
 
   module _ (no : s ≡ false) where
-    pub listed-entry : (next : ℕ) (r : Step) → Lines t (entry next (drop at t)) r → Lines t (line (Listing next) (drop at t)) r
+    pub listed-entry : (next : ℕ) (r : Result Step ℕ) → Lines t (entry next (drop at t)) r → Lines t (line (Listing next) (drop at t)) r
     unfolding line pick
     listed-entry next r l = let w : is_word event_word (drop at t) ≡ false = sym told ∙ no in rw w l
 
     module _ (h : Bool) (asked : h ≡ is_word part_word (drop at t)) where
-      module _ (k : ℕ) (p : h ≡ true) (b : PassesWord t at k) (r : Step) (l : Lines t (parted (drop k t)) r) where
+      module _ (k : ℕ) (p : h ≡ true) (b : PassesWord t at k) (r : Result Step ℕ) (l : Lines t (parted (drop k t)) r) where
         pub divided-part : Lines t (line Timed (drop at t)) r
         unfolding line pick
         divided-part =
@@ -111,17 +112,17 @@ module _ (t : List ℕ) (at : ℕ) (s : Bool) (told : s ≡ is_word event_word (
             let v : is_word part_word (drop at t) ≡ true = sym asked ∙ p in
             rw (w, v, b.left) l
 
-      module _ (none : h ≡ false) (r : Step) where
-        pub divided-none : at ≤ length t → r ≡ fault_at at → Lines t (line Timed (drop at t)) r
+      module _ (none : h ≡ false) where
+        pub divided-none : at ≤ length t → Lines t (line Timed (drop at t)) (Err at)
         unfolding line pick
-        divided-none start e =
+        divided-none start =
             let w : is_word event_word (drop at t) ≡ false = sym told ∙ no in
             let v : is_word part_word (drop at t) ≡ false = sym asked ∙ none in
-            fault-lines t _ at r start (rw (w, v)) e
+            fault-lines t _ at start (rw (w, v))
 
-        pub played-item : Lines t (item (drop at t)) r → Lines t (line (Playing 0) (drop at t)) r
+        pub played-item : (r : Result Step ℕ) → Lines t (item (drop at t)) r → Lines t (line (Playing 0) (drop at t)) r
         unfolding line pick
-        played-item l =
+        played-item r l =
             let w : is_word event_word (drop at t) ≡ false = sym told ∙ no in
             let v : is_word part_word (drop at t) ≡ false = sym asked ∙ none in
             rw (w, v) l
@@ -134,7 +135,7 @@ pub ruleset playing = (event-stands, part-stands, played-event, played-part, pla
 
 -- ---- a line
 
-module _ (t : List ℕ) (at : ℕ) (stage : Stage) (r : Step) where
+module _ (t : List ℕ) (at : ℕ) (stage : Stage) (r : Result Step ℕ) where
   pub line-start : stage ≡ Start → Lines t (line Start (drop at t)) r → Lines t (line stage (drop at t)) r
   line-start e l = rw e l
 

@@ -12,7 +12,7 @@ use Rattle.text.specs.declared.Stage.{Stage}
 use Rattle.text.specs.declared.Stage.TheVariants.{Start, Listing, Timed, Playing}
 use Rattle.text.specs.Grammar.{Line, heading, message, event, part, send, group, close, after, further, deeper, shallower}
 use Rattle.script.specs.declared.Found.{Found}
-use Rattle.script.specs.declared.Found.TheVariants.{Heading, Message, Event, Part, Send, Group, Close, Fault}
+use Rattle.script.specs.declared.Found.TheVariants.{Heading, Message, Event, Part, Send, Group, Close}
 use Rattle.script.specs.Steps.{line_of}
 use Rattle.script.specs.Stages.{after_read, stage_after, held}
 
@@ -89,43 +89,6 @@ pub ruleset deepening = (deeper-start, deeper-timed, deeper-list, open-room, dee
 
 pub ruleset shallowing = (shallower-start, shallower-timed, shallower-list, shallower-top, shallower-playing, rules)
 
--- ---- the line's cases
-
-module _ (found : Found) (stage : Stage) where
-  pub after-heading : found ≡ Heading → Listing 0 ≡ stage_after found stage
-  unfolding stage_after line_of after_read after
-  after-heading e = rw e
-
-  pub after-message : (start size : ℕ) (r : Stage) → found ≡ Message start size → r ≡ further stage → r ≡ stage_after found stage
-  unfolding stage_after line_of after_read after
-  after-message start size r e p = rw e p
-
-  pub after-event : (g : ℕ) → found ≡ Event g → Timed ≡ stage_after found stage
-  unfolding stage_after line_of after_read after
-  after-event g e = rw e
-
-  pub after-part : (n : ℕ) → found ≡ Part n → Playing 0 ≡ stage_after found stage
-  unfolding stage_after line_of after_read after
-  after-part n e = rw e
-
-  pub after-send : (d n : ℕ) → found ≡ Send d n → stage ≡ stage_after found stage
-  unfolding stage_after line_of after_read after
-  after-send d n e = rw e
-
-  pub after-group : (d w v : ℕ) (r : Stage) → found ≡ Group d w v → r ≡ deeper stage → r ≡ stage_after found stage
-  unfolding stage_after line_of after_read after
-  after-group d w v r e p = rw e p
-
-  pub after-close : (r : Stage) → found ≡ Close → r ≡ shallower stage → r ≡ stage_after found stage
-  unfolding stage_after line_of after_read after
-  after-close r e p = rw e p
-
-  pub after-fault : found ≡ Fault → stage ≡ stage_after found stage
-  unfolding stage_after line_of after_read
-  after-fault e = rw e
-
-pub ruleset stages = (after-heading, after-message, after-event, after-part, after-send, after-group, after-close, after-fault, rules)
-
 -- ---- what it says of the line
 
 -- The stage behind what was found is the stage behind the line that it says.
@@ -138,7 +101,6 @@ after_line t (Part n) l left rest stage e = let z : part n ≡ l = cc in rw (sym
 after_line t (Send d n) l left rest stage e = let z : send d n ≡ l = cc in rw (sym z)
 after_line t (Group d w v) l left rest stage e = let z : group d w v ≡ l = cc in rw (sym z)
 after_line t Close l left rest stage e = let z : close ≡ l = cc in rw (sym z)
-after_line t Fault l left rest stage e = let z : ◌≡◌ {A = ℕ} 0 1 = cc in absurd (omega arith)
 
 -- It holds at most one more than the stage before.
 pub held_after : (found : Found) (stage : Stage) → held (stage_after found stage) ≤ held stage + 1
@@ -159,4 +121,3 @@ held_after Close Start = omega arith
 held_after Close (Listing next) = omega arith
 held_after Close Timed = omega arith
 held_after Close (Playing depth) = omega arith
-held_after Fault stage = omega arith

@@ -1,5 +1,6 @@
 -- Each step of the first pass, in the code's own terms. The invariant: what the lines left come to, after those counted, is what all of them come to.
 -- Assumes nothing.
+use Rattle.std.specs.Prelude.{Result, Ok, Err}
 use mathlib.Core.Path.{◌≡◌, refl, sym, ap, ◌∙◌}
 use mathlib.Core.Bool.{Bool, true, false}
 use mathlib.Core.List.{List}
@@ -17,56 +18,13 @@ use Rattle.text.specs.Grammar.{line, is_over, Script, done, more, fault, script}
 use Rattle.text.specs.Said.{piece_of, told, said}
 use Rattle.text.proofs.CountLaws.{counted_line, counted_from, uncounted, counted-piece}
 use Rattle.script.specs.declared.Found.{Found}
-use Rattle.script.specs.declared.Found.TheVariants.{Heading, Message, Event, Part, Send, Group, Close, Fault}
+use Rattle.script.specs.declared.Found.TheVariants.{Heading, Message, Event, Part, Send, Group, Close}
 use Rattle.script.specs.declared.Step.{Step}
-use Rattle.script.specs.declared.Tally.{Tally}
-use Rattle.script.specs.declared.Tally.TheVariants.{Counted, Faulty}
-use Rattle.script.specs.Steps.{line_in, is_fault, Fits, fits_message, Lines}
+use Rattle.script.specs.Steps.{line_in, Fits, fits_message, Lines}
 use Rattle.script.specs.Stages.{stage_after, held}
 use Rattle.script.specs.Tallies.{tally_of, size_in, counted_in, Countable}
 use Rattle.script.proofs.StageSteps.{held_after}
-use Rattle.script.proofs.ScriptSteps.{script-over, script-fault, script-more, line_on, line-less}
-
--- ---- one line more
-
-module _ (found : Found) (c : Counts) where
-  pub count-heading : found ≡ Heading → c ≡ counted_in found c
-  unfolding counted_in
-  count-heading e = rw e
-
-  pub text-room : (start size : ℕ) → found ≡ Message start size → Countable found c → c.text + size < 2 ^ 64
-  unfolding size_in
-  text-room start size e p = rw e at p.text
-
-  pub count-message : (start size : ℕ) → found ≡ Message start size → record { events = c.events; items = c.items; messages = c.messages + 1; text = c.text + size } ≡ counted_in found c
-  unfolding counted_in
-  count-message start size e = rw e
-
-  pub count-event : (g : ℕ) → found ≡ Event g → record { events = c.events + 1; items = c.items; messages = c.messages; text = c.text } ≡ counted_in found c
-  unfolding counted_in
-  count-event g e = rw e
-
-  pub count-part : (n : ℕ) → found ≡ Part n → c ≡ counted_in found c
-  unfolding counted_in
-  count-part n e = rw e
-
-  pub count-send : (d n : ℕ) → found ≡ Send d n → record { events = c.events; items = c.items + 1; messages = c.messages; text = c.text } ≡ counted_in found c
-  unfolding counted_in
-  count-send d n e = rw e
-
-  pub count-group : (d w v : ℕ) → found ≡ Group d w v → record { events = c.events; items = c.items + 1; messages = c.messages; text = c.text } ≡ counted_in found c
-  unfolding counted_in
-  count-group d w v e = rw e
-
-  pub count-close : found ≡ Close → c ≡ counted_in found c
-  unfolding counted_in
-  count-close e = rw e
-
-  pub count-fault : found ≡ Fault → c ≡ counted_in found c
-  unfolding counted_in
-  count-fault e = rw e
-
-pub ruleset counting = (count-heading, text-room, count-message, count-event, count-part, count-send, count-group, count-close, count-fault, rules)
+use Rattle.script.proofs.ScriptSteps.{script-over, fault-near, script-fault, line-fits, line-within, script-more, line_on, line-less}
 
 -- ---- what is counted is what the line says
 
@@ -79,7 +37,6 @@ count-line t (Part n) c p = refl
 count-line t (Send d n) c p = refl
 count-line t (Group d w v) c p = refl
 count-line t Close c p = refl
-count-line t Fault c p = refl
 
 -- Of each kind at most one more, and of the text its label's bytes.
 module _ (f : Found) (c : Counts) where
@@ -94,7 +51,6 @@ module _ (f : Found) (c : Counts) where
     go (Send d n) = omega arith
     go (Group d w v) = omega arith
     go Close = omega arith
-    go Fault = omega arith
 
   count-items : (counted_in f c).items ≤ c.items + 1
   unfolding counted_in
@@ -107,7 +63,6 @@ module _ (f : Found) (c : Counts) where
     go (Send d n) = omega arith
     go (Group d w v) = omega arith
     go Close = omega arith
-    go Fault = omega arith
 
   count-messages : (counted_in f c).messages ≤ c.messages + 1
   unfolding counted_in
@@ -120,7 +75,6 @@ module _ (f : Found) (c : Counts) where
     go (Send d n) = omega arith
     go (Group d w v) = omega arith
     go Close = omega arith
-    go Fault = omega arith
 
   count-text : (counted_in f c).text ≤ c.text + size_in f
   unfolding counted_in size_in
@@ -133,18 +87,17 @@ module _ (f : Found) (c : Counts) where
     go (Send d n) = omega arith
     go (Group d w v) = omega arith
     go Close = omega arith
-    go Fault = omega arith
 
 -- ---- what the lines left come to
 
-unfoldable pub tallied : (size : ℕ) → Counts → Script → Tally
-tallied size c done = Counted c
+unfoldable pub tallied : (size : ℕ) → Counts → Script → Result Counts ℕ
+tallied size c done = Ok c
 tallied size c (more l s) = tallied size (counted_line l c) s
-tallied size c (fault left) = Faulty (size - length left)
+tallied size c (fault left) = Err (size - length left)
 
 tallied-told : (size : ℕ) (c : Counts) (p : Piece) (s : Script) → counted_from c s ≡ counts_in p → tallied size c s ≡ tally_of (told size p s)
 unfolding tallied tally_of told counted_from
-tallied-told size c p done e = ap (λ (n : Counts). Counted n) e
+tallied-told size c p done e = ap (λ (n : Counts). Ok n) e
 tallied-told size c p (more l s) e = tallied-told size (counted_line l c) p s e
 tallied-told size c p (fault left) e = refl
 
@@ -171,46 +124,49 @@ tally-start t =
     }
 
 module _ (t : List ℕ) (at from : ℕ) (stage : Stage) (c : Counts) (inv : Tallying t at stage c) (passed : Passes t at from) (over : Bool) (asked : over ≡ is_over stage (drop from t)) where
-  pub tally-over : over ≡ true → Counted c ≡ tally_of (said t)
+  pub tally-over : over ≡ true → Ok c ≡ tally_of (said t)
   unfolding tallied
   tally-over p = rw (script-over t at from stage passed (sym asked ∙ p)) at inv.total
 
-  module _ (no : over ≡ false) (s : Step) (read : Lines t (line stage (drop from t)) s) (bad : Bool) (told : bad ≡ is_fault s.found) where
-    pub tally-fault : bad ≡ true → Faulty s.next ≡ tally_of (said t)
+  module _ (no : over ≡ false) (v : Result Step ℕ) (read : Lines t (line stage (drop from t)) v) where
+    pub tally-fault : (r : Result Counts ℕ) (i : ℕ) → v ≡ Err i → r ≡ Err i → r ≡ tally_of (said t)
     unfolding tallied
-    tally-fault p =
-        let e : Faulty (length t - length (drop s.next t)) ≡ tally_of (said t) = rw (script-fault t at from stage passed s read (sym asked ∙ no) (sym told ∙ p)) at inv.total in
-        let z : length t - length (drop s.next t) ≡ s.next = omega (arith, length-drop s.next t, read.within) in
-        rw z at e
+    tally-fault r i k q =
+        let e : Err (length t - length (drop i t)) ≡ tally_of (said t) = rw (script-fault t at from stage passed v read i k (sym asked ∙ no)) at inv.total in
+        let z : length t - length (drop i t) ≡ i = omega (arith, length-drop i t, fault-near t at from stage passed v read i k) in
+        q ∙ (rw z at e)
 
-    module _ (p : bad ≡ false) where
+    module _ (s : Step) (k : v ≡ Ok s) where
       tally-on : at + size_in s.found < s.next
-      tally-on = line_on t at from stage passed s read (sym told ∙ p)
+      tally-on = line_on t at from stage passed v read s k
+
+      tally-within : s.next ≤ length t
+      tally-within = line-within t at from stage passed v read s k
 
       pub tally-less : length t - s.next < length t - at
-      tally-less = line-less t at from stage passed s read (sym told ∙ p)
+      tally-less = line-less t at from stage passed v read s k
 
       pub tally-room : length t < 2 ^ 64 → Countable s.found c
       tally-room q =
           record {
-            events = omega (arith, tally-on, inv.events, read.within);
-            items = omega (arith, tally-on, inv.items, read.within);
-            messages = omega (arith, tally-on, inv.messages, read.within);
-            text = omega (arith, tally-on, inv.text, read.within);
+            events = omega (arith, tally-on, inv.events, tally-within);
+            items = omega (arith, tally-on, inv.items, tally-within);
+            messages = omega (arith, tally-on, inv.messages, tally-within);
+            text = omega (arith, tally-on, inv.text, tally-within);
           }
 
       pub tally-held : length t < 2 ^ 64 → held stage + 1 < 2 ^ 64
-      tally-held q = omega (arith, tally-on, inv.few, read.within)
+      tally-held q = omega (arith, tally-on, inv.few, tally-within)
 
       pub tally-step : (d : Counts) (behind : Stage) → d ≡ counted_in s.found c → behind ≡ stage_after s.found stage → Tallying t s.next behind d
       unfolding tallied
       tally-step d behind e f =
-          let m = script-more t at from stage passed s read (sym asked ∙ no) (sym told ∙ p) in
+          let m = script-more t at from stage passed v read s k (sym asked ∙ no) in
           let n : tallied (length t) (counted_line (line_in t s.found) c) (script (stage_after s.found stage) (drop s.next t)) ≡ tally_of (said t) = rw m at inv.total in
           rw (e, f)
           (record {
-            total = rw (count-line t s.found c read.fits) n;
-            within = read.within;
+            total = rw (count-line t s.found c (line-fits t at from stage passed v read s k)) n;
+            within = tally-within;
             events = omega (arith, tally-on, inv.events, count-events s.found c);
             items = omega (arith, tally-on, inv.items, count-items s.found c);
             messages = omega (arith, tally-on, inv.messages, count-messages s.found c);

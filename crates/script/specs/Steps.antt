@@ -1,5 +1,5 @@
 -- What is asked of the functions that read a line: their answers in the words of the grammar.
-use Rattle.std.specs.Prelude.{ℕ, ◌+◌, ◌<◌, ◌≤◌, ◌≡◌, Bool, true, false, List, length, drop}
+use Rattle.std.specs.Prelude.{ℕ, ◌+◌, ◌<◌, ◌≤◌, ◌≡◌, true, List, length, drop, Result, Ok, Err}
 use Rattle.tokens.specs.Bytes.{is_letter}
 use Rattle.tokens.specs.Tokens.{Read, got, stop, behind, label, is_read, bytes_in}
 use Rattle.tokens.specs.Beats.{field}
@@ -7,7 +7,7 @@ use Rattle.text.specs.Words.{message_field, part_field}
 use Rattle.text.specs.Written.{error_word}
 use Rattle.text.specs.Grammar.{Line, heading, message, event, part, send, group, close, past_word}
 use Rattle.script.specs.declared.Found.{Found}
-use Rattle.script.specs.declared.Found.TheVariants.{Heading, Message, Event, Part, Send, Group, Close, Fault}
+use Rattle.script.specs.declared.Found.TheVariants.{Heading, Message, Event, Part, Send, Group, Close}
 use Rattle.script.specs.declared.Step.{Step}
 
 -- A word of this size stands here.
@@ -26,8 +26,8 @@ pub record PassesWord (t : List ℕ) (at r : ℕ) : Type 0 where
   pub within : r ≤ length t
 
 -- A fault at this byte.
-abbrev pub fault_at : ℕ → Step
-fault_at at = record { found = Fault; next = at }
+abbrev pub fault_at : ℕ → Result Step ℕ
+fault_at at = Err at
 
 -- The line that was found in this text, and the bytes left behind it.
 unfoldable pub line_of : List ℕ → Found → List ℕ → Read Line
@@ -38,9 +38,8 @@ line_of t (Part n) left = got (part n) left
 line_of t (Send d n) left = got (send d n) left
 line_of t (Group d w v) left = got (group d w v) left
 line_of t Close left = got close left
-line_of t Fault left = stop left
 
--- The line itself; of a fault, where there is none, any.
+-- The line itself.
 unfoldable pub line_in : List ℕ → Found → Line
 line_in t Heading = heading
 line_in t (Message start size) = message (bytes_in (label (drop start t)))
@@ -49,20 +48,15 @@ line_in t (Part n) = part n
 line_in t (Send d n) = send d n
 line_in t (Group d w v) = group d w v
 line_in t Close = close
-line_in t Fault = close
 
-unfoldable pub is_fault : Found → Bool
-is_fault Fault = true
-is_fault Heading = false
-is_fault (Message start size) = false
-is_fault (Event g) = false
-is_fault (Part n) = false
-is_fault (Send d n) = false
-is_fault (Group d w v) = false
-is_fault Close = false
+unfoldable pub as_line : List ℕ → Result Step ℕ → Read Line
+as_line t (Ok s) = line_of t s.found (drop s.next t)
+as_line t (Err at) = stop (drop at t)
 
-unfoldable pub as_line : List ℕ → Step → Read Line
-as_line t r = line_of t r.found (drop r.next t)
+-- The byte behind the line, or the one at fault.
+unfoldable pub ends_at : Result Step ℕ → ℕ
+ends_at (Ok s) = s.next
+ends_at (Err at) = at
 
 -- What is found keeps to its fields, and a message's label is there.
 pub data Fits (t : List ℕ) : Found → Type 0 where
@@ -73,10 +67,14 @@ pub data Fits (t : List ℕ) : Found → Type 0 where
   fits_send : {delay number : ℕ} → delay < field → number < message_field → Fits t (Send delay number)
   fits_group : {delay synchrony error : ℕ} → delay < field → synchrony ≤ 1 → error ≤ 3 → Fits t (Group delay synchrony error)
   fits_close : Fits t Close
-  fits_fault : Fits t Fault
 
--- The step says this, and lies within the text and its fields.
-pub record Lines (t : List ℕ) (what : Read Line) (r : Step) : Type 0 where
+-- So does a line that is read.
+pub data StepFits (t : List ℕ) : Result Step ℕ → Type 0 where
+  fits_read : {s : Step} → Fits t s.found → StepFits t (Ok s)
+  fits_fault : {at : ℕ} → StepFits t (Err at)
+
+-- The answer says this, and lies within the text and its fields.
+pub record Lines (t : List ℕ) (what : Read Line) (r : Result Step ℕ) : Type 0 where
   pub says : as_line t r ≡ what
-  pub within : r.next ≤ length t
-  pub fits : Fits t r.found
+  pub within : ends_at r ≤ length t
+  pub fits : StepFits t r

@@ -7,7 +7,6 @@ ghost use Rattle.script.specs.Steps.{Lines};
 use crate::item::{closed, item};
 use crate::list::entry;
 use crate::marks::{parted, timed};
-use crate::steps::fault;
 use crate::words::past_word;
 use crate::{Found, Step};
 use text::Stage;
@@ -36,21 +35,21 @@ pub fn is_over(text: &[u8], at: usize, stage: Stage) -> bool
 }
 
 // The word `messages`.
-fn heading(text: &[u8], at: usize) -> Step
+fn heading(text: &[u8], at: usize) -> Result<Step, usize>
     requires { at ≤ length text.now }
     ensures { Lines text.now (line Start (drop at text.now)) result }
 {
     if !is_word(b"messages", text, at) {
-        return fault(at);
+        return Err(at);
     }
-    Step {
+    Ok(Step {
         found: Found::Heading,
         next: at + 8,
-    }
+    })
 }
 
 // The message of this number, or an event.
-fn listed(text: &[u8], at: usize, next: usize) -> Step
+fn listed(text: &[u8], at: usize, next: usize) -> Result<Step, usize>
     requires { at ≤ length text.now }
     ensures { Lines text.now (line (Listing next) (drop at text.now)) result }
 {
@@ -62,7 +61,7 @@ fn listed(text: &[u8], at: usize, next: usize) -> Step
 }
 
 // A part or an event.
-fn divided(text: &[u8], at: usize) -> Step
+fn divided(text: &[u8], at: usize) -> Result<Step, usize>
     requires { at ≤ length text.now }
     ensures { Lines text.now (line Timed (drop at text.now)) result }
 {
@@ -74,11 +73,11 @@ fn divided(text: &[u8], at: usize) -> Step
         let number = past_word(text, at, 4);
         return parted(text, number);
     }
-    fault(at)
+    Err(at)
 }
 
 // An item, where no group is open: a part or an event too.
-fn played(text: &[u8], at: usize) -> Step
+fn played(text: &[u8], at: usize) -> Result<Step, usize>
     requires { at ≤ length text.now }
     ensures { Lines text.now (line (Playing 0) (drop at text.now)) result }
 {
@@ -94,7 +93,7 @@ fn played(text: &[u8], at: usize) -> Step
 }
 
 // The line at `at`, where no blank stands.
-pub fn line(text: &[u8], at: usize, stage: Stage) -> Step
+pub fn line(text: &[u8], at: usize, stage: Stage) -> Result<Step, usize>
     requires { at ≤ length text.now }
     ensures { Lines text.now (line stage (drop at text.now)) result }
 {

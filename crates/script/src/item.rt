@@ -4,7 +4,6 @@ ghost use Rattle.tokens.specs.Beats.{field};
 ghost use Rattle.text.specs.Grammar.{sent, opened, erring, grouped, action, item, closed};
 ghost use Rattle.script.specs.Steps.{Lines};
 
-use crate::steps::fault;
 use crate::words::{error_at, error_size, past_word, synchrony_at};
 use crate::{Found, Step};
 use tokens::{beats, is_word, number, past_blanks};
@@ -22,47 +21,40 @@ const SYNCHRONIES: u64 = 2;
 const ERRORS: u64 = 4;
 
 // The message behind `send`.
-fn sent(text: &[u8], at: usize, delay: u64) -> Step
+fn sent(text: &[u8], at: usize, delay: u64) -> Result<Step, usize>
     requires { (at ≤ length text.now) × (delay < field) }
     ensures { Lines text.now (sent delay (drop at text.now)) result }
 {
-    let n = number(text, at, MESSAGE_FIELD);
-    if !n.read {
-        return fault(n.next);
-    }
-    Step {
+    let n = number(text, at, MESSAGE_FIELD)?;
+    Ok(Step {
         found: Found::Send {
             delay,
             number: n.value,
         },
         next: n.next,
-    }
+    })
 }
 
 // The brace behind a group's words.
-fn opened(text: &[u8], at: usize, delay: u64, synchrony: u64, error: u64) -> Step
+fn opened(text: &[u8], at: usize, delay: u64, synchrony: u64, error: u64) -> Result<Step, usize>
     requires { (at ≤ length text.now) × (delay < field) × (synchrony ≤ 1) × (error ≤ 3) }
     ensures { Lines text.now (opened delay synchrony error (drop at text.now)) result }
 {
-    if text.len() <= at {
-        return fault(at);
+    if text.len() <= at || text[at] != OPENING {
+        return Err(at);
     }
-    let b = text[at];
-    if b != OPENING {
-        return fault(at);
-    }
-    Step {
+    Ok(Step {
         found: Found::Group {
             delay,
             synchrony,
             error,
         },
         next: at + 1,
-    }
+    })
 }
 
 // "A group with no error word reads as local"
-fn erring(text: &[u8], at: usize, delay: u64, synchrony: u64) -> Step
+fn erring(text: &[u8], at: usize, delay: u64, synchrony: u64) -> Result<Step, usize>
     requires { (at ≤ length text.now) × (delay < field) × (synchrony ≤ 1) }
     ensures { Lines text.now (erring delay synchrony (drop at text.now)) result }
 {
@@ -76,7 +68,7 @@ fn erring(text: &[u8], at: usize, delay: u64, synchrony: u64) -> Step
 }
 
 // ", one with no synchrony as loose."
-fn grouped(text: &[u8], at: usize, delay: u64) -> Step
+fn grouped(text: &[u8], at: usize, delay: u64) -> Result<Step, usize>
     requires { (at ≤ length text.now) × (delay < field) }
     ensures { Lines text.now (grouped delay (drop at text.now)) result }
 {
@@ -89,7 +81,7 @@ fn grouped(text: &[u8], at: usize, delay: u64) -> Step
 }
 
 // What stands behind a delay.
-fn action(text: &[u8], at: usize, delay: u64) -> Step
+fn action(text: &[u8], at: usize, delay: u64) -> Result<Step, usize>
     requires { (at ≤ length text.now) × (delay < field) }
     ensures { Lines text.now (action delay (drop at text.now)) result }
 {
@@ -101,35 +93,31 @@ fn action(text: &[u8], at: usize, delay: u64) -> Step
         let next = past_word(text, at, 5);
         return grouped(text, next, delay);
     }
-    fault(at)
+    Err(at)
 }
 
-pub fn item(text: &[u8], at: usize) -> Step
+pub fn item(text: &[u8], at: usize) -> Result<Step, usize>
     requires { at ≤ length text.now }
     ensures { Lines text.now (item (drop at text.now)) result }
 {
-    let d = beats(text, at);
-    if !d.read {
-        return fault(d.next);
-    }
+    let d = beats(text, at)?;
     let word = past_blanks(text, d.next);
     action(text, word, d.value)
 }
 
 // The brace that closes a group, or an item within it.
-pub fn closed(text: &[u8], at: usize) -> Step
+pub fn closed(text: &[u8], at: usize) -> Result<Step, usize>
     requires { at ≤ length text.now }
     ensures { Lines text.now (closed (drop at text.now)) result }
 {
     if text.len() <= at {
-        return fault(at);
+        return Err(at);
     }
-    let b = text[at];
-    if b != CLOSING {
+    if text[at] != CLOSING {
         return item(text, at);
     }
-    Step {
+    Ok(Step {
         found: Found::Close,
         next: at + 1,
-    }
+    })
 }

@@ -46,7 +46,8 @@ fn shallower(stage: Stage) -> Stage
     }
 }
 
-// What may stand behind this line; a fault changes nothing.
+// What may stand behind this line.
+#[tactic(auto, unfolding(crate::specs::Stages::stage_after, crate::specs::Steps::line_of, crate::specs::Stages::after_read, text::specs::Grammar::after))]
 pub fn after(found: Found, stage: Stage) -> Stage
     requires { held stage + 1 < 2 ^ 64 }
     ensures { result ≡ stage_after found stage }
@@ -66,6 +67,5 @@ pub fn after(found: Found, stage: Stage) -> Stage
             error: _,
         } => deeper(stage),
         Found::Close => shallower(stage),
-        Found::Fault => stage,
     }
 }

@@ -3,15 +3,15 @@ ghost use Rattle.std.specs.Prelude.{◌≡◌};
 ghost use Rattle.text.specs.Said.{said};
 ghost use Rattle.script.specs.Tallies.{tally_of, counted_in, Countable};
 
+use crate::Found;
 use crate::grammar::{is_over, line};
 use crate::stages::after;
-use crate::steps::is_fault;
-use crate::{Found, Tally};
 use contents::Counts;
 use text::Stage;
 use tokens::past_blanks;
 
 // One line more.
+#[tactic(auto, unfolding(crate::specs::Tallies::counted_in, crate::specs::Tallies::size_in))]
 fn count(found: Found, c: Counts) -> Counts
     requires { Countable found c }
     ensures { result ≡ counted_in found c }
@@ -51,12 +51,11 @@ fn count(found: Found, c: Counts) -> Counts
             text: c.text,
         },
         Found::Close => c,
-        Found::Fault => c,
     }
 }
 
-// What the text comes to.
-pub fn tally_text(text: &[u8]) -> Tally
+// How much the text has of each kind, or its first fault.
+pub fn tally_text(text: &[u8]) -> Result<Counts, usize>
     ensures { result ≡ tally_of (said text.now) }
 {
     let mut at = 0;
@@ -70,15 +69,11 @@ pub fn tally_text(text: &[u8]) -> Tally
     loop {
         let from = past_blanks(text, at);
         if is_over(text, from, stage) {
-            return Tally::Counted { counts };
+            return Ok(counts);
         }
-        let s = line(text, from, stage);
-        let found = s.found;
+        let s = line(text, from, stage)?;
+        counts = count(s.found, counts);
+        stage = after(s.found, stage);
         at = s.next;
-        if is_fault(found) {
-            return Tally::Faulty { at };
-        }
-        counts = count(found, counts);
-        stage = after(found, stage);
     }
 }

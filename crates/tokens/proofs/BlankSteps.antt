@@ -51,11 +51,12 @@ pub comment-start : (t : List ℕ) (at : ℕ) → at ≤ length t → InComment 
 comment-start t at p = record { left = refl; from = omega arith; within = p }
 
 module _ (t : List ℕ) (at i : ℕ) (inv : InComment t at i) where
-  pub comment-over : length t ≤ i → PassesComment t at i
+  pub comment-over : length t ≤ i → PassesComment t at (length t)
   unfolding past_blanks pick
   comment-over p =
+      let n : length t ≡ i = omega (arith, inv.within) in
       let e : past_blanks false (drop i t) ≡ past_blanks true (drop i t) = rw (drop_of_length-le t p) in
-      record { left = sym (e ∙ inv.left); from = inv.from; within = inv.within }
+      rw n (record { left = sym (e ∙ inv.left); from = inv.from; within = inv.within })
 
   module _ (more : i < length t) where
     pub comment-ends : get_or t i 0 ≡ newline → PassesComment t at i
@@ -83,6 +84,9 @@ module _ (t : List ℕ) (at i : ℕ) (inv : InBlanks t at i) where
   blanks-over p =
       let e : past_blanks false (drop i t) ≡ drop i t = rw (drop_of_length-le t p) in
       record { left = sym inv.left ∙ e; from = inv.from; within = inv.within }
+
+  pub spaces-over : length t ≤ i → InBlanks t at (length t)
+  spaces-over p = let n : length t ≡ i = omega (arith, inv.within) in rw n inv
 
   pub spaces-step : i < length t → get_or t i 0 ≡ space → InBlanks t at (i + 1)
   unfolding past_blanks is_blank pick
@@ -112,6 +116,6 @@ module _ (t : List ℕ) (at i : ℕ) (inv : InBlanks t at i) where
         let l : past_blanks true (drop (i + 1) t) ≡ past_blanks false (drop at t) = rw (drop-next t i more, b, eq-eqb (get_or t i 0) hash n) at inv.left in
         record { left = sym c.left ∙ l; from = omega (arith, inv.from, c.from); within = c.within }
 
-pub ruleset spacing = (blanks-start, spaces-step, rules)
+pub ruleset spacing = (blanks-start, spaces-over, spaces-step, rules)
 
 pub ruleset passing = (blanks-over, blanks-step, blanks-found, blanks-hash, rules)

@@ -71,88 +71,86 @@ module _ (t : List ℕ) (at : ℕ) (p : is_read (label (drop at t)) ≡ true) wh
 
 -- ---- from there on
 
-pub record Copying (t : List ℕ) (at : ℕ) (o : List ℕ) (to : ℕ) (out : List ℕ) (i next : ℕ) : Type 0 where
+-- e: a backslash stands before byte i.
+pub record Copying (t : List ℕ) (at : ℕ) (o : List ℕ) (to : ℕ) (out : List ℕ) (e : Bool) (i next : ℕ) : Type 0 where
   pub bytes : List ℕ
   pub laid : Laid o to bytes out next
-  pub rest : bytes ++ bytes_in (label_from false (drop i t)) ≡ bytes_in (label (drop at t))
-  pub there : is_read (label_from false (drop i t)) ≡ true
-  pub more : i < length t
+  pub rest : bytes ++ bytes_in (label_from e (drop i t)) ≡ bytes_in (label (drop at t))
+  pub there : is_read (label_from e (drop i t)) ≡ true
 
 pub copy_at : (t : List ℕ) (at : ℕ) (o : List ℕ) (to : ℕ) → Copyable t at o to → at < length t
 copy_at t at o to c = (quote-there t at c.labelled).0
 
-pub copy_start : (t : List ℕ) (at : ℕ) (o : List ℕ) (to : ℕ) → Copyable t at o to → Copying t at o to o (at + 1) to
+pub copy_start : (t : List ℕ) (at : ℕ) (o : List ℕ) (to : ℕ) → Copyable t at o to → Copying t at o to o false (at + 1) to
 copy_start t at o to c =
     let q = quote-there t at c.labelled in
     let e : label (drop at t) ≡ label_from false (drop (at + 1) t) = q.1 in
-    let r : is_read (label_from false (drop (at + 1) t)) ≡ true = rw e at c.labelled in
     let l : to ≤ length o = omega (arith, c.room) in
-    record {
-      bytes = [];
-      laid = laid-nothing o to l;
-      rest = rw e;
-      there = r;
-      more = goes_on false t (at + 1) r;
-    }
+    record { bytes = []; laid = laid-nothing o to l; rest = rw e; there = rw e at c.labelled }
 
-module _ (t : List ℕ) (at : ℕ) (o : List ℕ) (to : ℕ) (out : List ℕ) (i next : ℕ) (c : Copyable t at o to) (inv : Copying t at o to out i next) where
-  pub copy_done : get_or t i 0 ≡ quote → Laid o to (bytes_in (label (drop at t))) out next
-  unfolding label_from bytes_in pick
-  copy_done e =
-      let r : inv.bytes ++ [] ≡ bytes_in (label (drop at t)) = rw (drop-next t i inv.more, eq-eqb (get_or t i 0) quote e) at inv.rest in
-      let s : inv.bytes ≡ bytes_in (label (drop at t)) = sym (append-nil inv.bytes) ∙ r in
-      rw s at inv.laid
+module _ (t : List ℕ) (at : ℕ) (o : List ℕ) (to : ℕ) (out : List ℕ) (e : Bool) (i next : ℕ) (c : Copyable t at o to) (inv : Copying t at o to out e i next) where
+  -- The label ends within the text.
+  pub copy_over : length t ≤ i → Laid o to (bytes_in (label (drop at t))) out next
+  copy_over p = let more = goes_on e t i inv.there in absurd (omega arith)
 
-  -- One byte more, from which the label goes on at j.
-  module _ (b j : ℕ) (n : Behind b (label_from false (drop i t)) (label_from false (drop j t))) where
+  -- One byte more.
+  module _ (b : ℕ) (n : Behind b (label_from e (drop i t)) (label_from false (drop (i + 1) t))) where
     byte_fits : next + 1 ≤ length out
     byte_fits =
         let r = ap (λ (l : List ℕ). length l) inv.rest in
         let s = ap (λ (l : List ℕ). length l) n.bytes in
-        omega (arith, c.room, inv.laid.stop, inv.laid.size, length-append inv.bytes (bytes_in (label_from false (drop i t))))
+        omega (arith, c.room, inv.laid.stop, inv.laid.size, length-append inv.bytes (bytes_in (label_from e (drop i t))))
 
-    byte-copied : Copying t at o to (set out next b) j (next + 1)
+    byte-copied : Copying t at o to (set out next b) false (i + 1) (next + 1)
     byte-copied =
-        let a = append_assoc inv.bytes (b ∷ []) (bytes_in (label_from false (drop j t))) in
+        let a = append_assoc inv.bytes (b ∷ []) (bytes_in (label_from false (drop (i + 1) t))) in
         record {
           bytes = inv.bytes ++ (b ∷ []);
           laid = laid-join o out (set out next b) _ _ to next _ inv.laid (laid-byte out next b byte_fits);
           rest = a ∙ (rw n.bytes at inv.rest);
           there = n.there;
-          more = goes_on false t j n.there;
         }
 
-  module _ (inside : get_or t i 0 ≡ quote → ⊥) where
-    module _ (k : get_or t i 0 ≡ backslash → ⊥) where
-      plain : Behind (get_or t i 0) (label_from false (drop i t)) (label_from false (drop (i + 1) t))
-      plain =
-          let d = drop-next t i inv.more in
-          rw d (behind-plain (get_or t i 0) (drop (i + 1) t) inside k (rw d at inv.there))
-
-      pub copy-fits : next < length out
-      copy-fits = omega (arith, byte_fits (get_or t i 0) (i + 1) plain)
-
-      pub copy-byte : Copying t at o to (set out next (get_or t i 0)) (i + 1) (next + 1)
-      copy-byte = byte-copied (get_or t i 0) (i + 1) plain
-
-    module _ (k : get_or t i 0 ≡ backslash) where
-      slashed : label_from false (drop i t) ≡ label_from true (drop (i + 1) t)
-      unfolding label_from pick
-      slashed = rw (drop-next t i inv.more, ne_eqb (get_or t i 0) quote inside, eq-eqb (get_or t i 0) backslash k)
-
-      pub copy_more : i + 1 < length t
-      copy_more = goes_on true t (i + 1) (rw slashed at inv.there)
-
-      escaped : Behind (get_or t (i + 1) 0) (label_from false (drop i t)) (label_from false (drop (i + 1 + 1) t))
+  module _ (more : i < length t) where
+    module _ (k : e ≡ true) where
+      escaped : Behind (get_or t i 0) (label_from e (drop i t)) (label_from false (drop (i + 1) t))
       escaped =
-          let d = drop-next t (i + 1) copy_more in
-          let h : is_read (label_from true (drop (i + 1) t)) ≡ true = rw slashed at inv.there in
-          rw (slashed, d) (behind-escaped (get_or t (i + 1) 0) (drop (i + 1 + 1) t) (rw d at h))
+          let d = drop-next t i more in
+          rw (k, d) (behind-escaped (get_or t i 0) (drop (i + 1) t) (rw (k, d) at inv.there))
 
-      pub copy-escape-fits : next < length out
-      copy-escape-fits = omega (arith, byte_fits (get_or t (i + 1) 0) (i + 1 + 1) escaped)
+      pub escape-fits : next < length out
+      escape-fits = omega (arith, byte_fits (get_or t i 0) escaped)
 
-      pub copy-escape : Copying t at o to (set out next (get_or t (i + 1) 0)) (i + 1 + 1) (next + 1)
-      copy-escape = byte-copied (get_or t (i + 1) 0) (i + 1 + 1) escaped
+      pub copy-escape : Copying t at o to (set out next (get_or t i 0)) false (i + 1) (next + 1)
+      copy-escape = byte-copied (get_or t i 0) escaped
 
-pub ruleset copying = (copy_start, copy_done, copy-fits, copy-byte, rules)
+    module _ (k : e ≡ false) where
+      pub copy_done : get_or t i 0 ≡ quote → Laid o to (bytes_in (label (drop at t))) out next
+      unfolding label_from bytes_in pick
+      copy_done q =
+          let r : inv.bytes ++ [] ≡ bytes_in (label (drop at t)) = rw (k, drop-next t i more, eq-eqb (get_or t i 0) quote q) at inv.rest in
+          let s : inv.bytes ≡ bytes_in (label (drop at t)) = sym (append-nil inv.bytes) ∙ r in
+          rw s at inv.laid
+
+      module _ (inside : get_or t i 0 ≡ quote → ⊥) where
+        pub copy-slash : get_or t i 0 ≡ backslash → Copying t at o to out true (i + 1) next
+        unfolding label_from pick
+        copy-slash b =
+            let d = drop-next t i more in
+            let q = ne_eqb (get_or t i 0) quote inside in
+            let s = eq-eqb (get_or t i 0) backslash b in
+            record { bytes = inv.bytes; laid = inv.laid; rest = rw (k, d, q, s) at inv.rest; there = rw (k, d, q, s) at inv.there }
+
+        module _ (other : get_or t i 0 ≡ backslash → ⊥) where
+          plain : Behind (get_or t i 0) (label_from e (drop i t)) (label_from false (drop (i + 1) t))
+          plain =
+              let d = drop-next t i more in
+              rw (k, d) (behind-plain (get_or t i 0) (drop (i + 1) t) inside other (rw (k, d) at inv.there))
+
+          pub copy-fits : next < length out
+          copy-fits = omega (arith, byte_fits (get_or t i 0) plain)
+
+          pub copy-byte : Copying t at o to (set out next (get_or t i 0)) false (i + 1) (next + 1)
+          copy-byte = byte-copied (get_or t i 0) plain
+
+pub ruleset copying = (copy_at, copy_start, copy_over, copy_done, copy-slash, escape-fits, copy-escape, copy-fits, copy-byte, rules)

@@ -1,15 +1,14 @@
 -- No second answer meets the contract of a reader: whether a token is read, where it ends or can't be, and its value where it is read.
 -- Assumes nothing.
+use Rattle.std.specs.Prelude.{Result, Ok, Err}
 use mathlib.Core.Path.{◌≡◌, refl, sym, ap, ◌∙◌}
-use mathlib.Core.Bool.{Bool, true, false}
 use mathlib.Core.List.{List}
 use Prim.Native.Nat.{ℕ, ◌≤◌}
 use native.Mathlib.Omega.{arith}
 use lib.ListN.{length, drop, length-drop}
-use Rattle.base.specs.Tests.{pick}
 use Rattle.tokens.specs.declared.Token.{Token}
 use Rattle.tokens.specs.Tokens.{Read, got, stop}
-use Rattle.tokens.specs.Asked.{Passes, as_read, Reads, Sizes}
+use Rattle.tokens.specs.Asked.{Passes, as_read, met_at, Reads, Sizes}
 
 -- One place within a text has these bytes left.
 one_place : (t : List ℕ) (a b : ℕ) → a ≤ length t → b ≤ length t → drop a t ≡ drop b t → a ≡ b
@@ -21,22 +20,19 @@ pub one-passed : (t : List ℕ) (at r r' : ℕ) → Passes t at r → Passes t a
 one-passed t at r r' p q = one_place t r r' p.within q.within (sym p.left ∙ q.left)
 
 -- The same is read, or neither is.
-pub data Alike (v w : Token) : Type 0 where
-  both : v.read ≡ true → w.read ≡ true → v.value ≡ w.value → v.next ≡ w.next → Alike v w
-  neither : v.read ≡ false → w.read ≡ false → v.next ≡ w.next → Alike v w
+pub data Alike (v w : Result Token ℕ) : Type 0 where
+  both : (k l : Token) → v ≡ Ok k → w ≡ Ok l → k.value ≡ l.value → k.next ≡ l.next → Alike v w
+  neither : (i j : ℕ) → v ≡ Err i → w ≡ Err j → i ≡ j → Alike v w
 
-module _ (t : List ℕ) (v w : Token) (p : v.next ≤ length t) (q : w.next ≤ length t) (e : as_read t v ≡ as_read t w) where
-  one-read : Alike v w
-  unfolding as_read pick
-  one-read = go v.read w.read refl refl e where
-    go : (a b : Bool) → v.read ≡ a → w.read ≡ b
-        → pick a (got v.value (drop v.next t)) (stop (drop v.next t)) ≡ pick b (got w.value (drop w.next t)) (stop (drop w.next t)) → Alike v w
-    go true true k l h = both k l (cc) (one_place t v.next w.next p q (cc))
-    go true false k l h = let z : ◌≡◌ {A = ℕ} 0 1 = cc in absurd (omega arith)
-    go false true k l h = let z : ◌≡◌ {A = ℕ} 0 1 = cc in absurd (omega arith)
-    go false false k l h = neither k l (one_place t v.next w.next p q (cc))
+module _ (t : List ℕ) where
+  one-read : (v w : Result Token ℕ) → met_at v ≤ length t → met_at w ≤ length t → as_read t v ≡ as_read t w → Alike v w
+  unfolding as_read met_at
+  one-read (Ok k) (Ok l) p q e = both k l refl refl (cc) (one_place t k.next l.next p q (cc))
+  one-read (Ok k) (Err j) p q e = let z : ◌≡◌ {A = ℕ} 0 1 = cc in absurd (omega arith)
+  one-read (Err i) (Ok l) p q e = let z : ◌≡◌ {A = ℕ} 0 1 = cc in absurd (omega arith)
+  one-read (Err i) (Err j) p q e = neither i j refl refl (one_place t i j p q (cc))
 
-module _ (t : List ℕ) (v w : Token) where
+module _ (t : List ℕ) (v w : Result Token ℕ) where
   pub reads-alike : (limit : ℕ) (what : Read ℕ) → Reads t limit what v → Reads t limit what w → Alike v w
   reads-alike limit what p q = one-read t v w p.within q.within (p.says ∙ sym q.says)
 

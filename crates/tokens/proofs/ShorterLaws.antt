@@ -1,14 +1,14 @@
 -- Each token that is read leaves fewer bytes, and blanks no more: so a reader gets on.
 -- Assumes nothing.
+use Rattle.std.specs.Prelude.{Result, Ok, Err}
 use mathlib.Core.Path.{◌≡◌, refl, sym, ap, ◌∙◌}
-use mathlib.Core.Bool.{Bool, true, false, not}
+use mathlib.Core.Bool.{Bool, true, false}
 use mathlib.Core.List.{List, [], ◌∷◌}
 use Prim.Native.Nat.{ℕ, suc, ◌+◌, ◌*◌, ◌/◌, ◌<◌, ◌≤◌}
 use native.Mathlib.Omega.{arith}
 use lib.ListN.{length, drop, length-drop}
 use lib.Seq.{drop-drop}
 use lib.Dec.{eqb}
-use borrow.Author.Tests.{not-false}
 use Rattle.base.specs.Tests.{pick}
 use Rattle.base.proofs.TestLaws.{every-head, between-low}
 use Rattle.ascii.specs.Words.{newline}
@@ -18,7 +18,7 @@ use Rattle.tokens.specs.declared.Token.{Token}
 use Rattle.tokens.specs.Bytes.{hash, slash, quote, backslash, is_blank, is_letter, is_escaped}
 use Rattle.tokens.specs.Tokens.{Read, got, stop, onward, past_blanks, leading, behind, is_word, is_number, number, with_byte, label_from, label}
 use Rattle.tokens.specs.Beats.{field, grains_of_a_beat, is_fraction, valued, fraction, beats}
-use Rattle.tokens.specs.Asked.{as_read, Reads}
+use Rattle.tokens.specs.Asked.{as_read, met_at, value_in, Reads, Sizes}
 
 -- What is read leaves fewer bytes than n.
 pub data Shorter {A : Type 0} (n : ℕ) : Read A → Type 0 where
@@ -172,22 +172,44 @@ fewer-left l left unread e = let z : ◌≡◌ {A = ℕ} 0 1 = cc in absurd (ome
 
 -- ---- in the code's own terms
 
-pub read-got : (t : List ℕ) (v : Token) → v.read ≡ true → as_read t v ≡ got v.value (drop v.next t)
-unfolding as_read pick
-read-got t v e = rw e
+module _ (t : List ℕ) (v : Result Token ℕ) where
+  pub read-got : (k : Token) → v ≡ Ok k → as_read t v ≡ got k.value (drop k.next t)
+  unfolding as_read
+  read-got k e = rw e
 
-pub read-stop : (t : List ℕ) (v : Token) → v.read ≡ false → as_read t v ≡ stop (drop v.next t)
-unfolding as_read pick
-read-stop t v e = rw e
+  pub read-stop : (at : ℕ) → v ≡ Err at → as_read t v ≡ stop (drop at t)
+  unfolding as_read
+  read-stop at e = rw e
 
-module _ (t : List ℕ) (at : ℕ) (v : Token) where
-  read-onward : {what : Read ℕ} → Shorter (length (drop at t)) what → as_read t v ≡ what → v.next ≤ length t → not v.read ≡ false → at < v.next
-  read-onward s e p r =
-      let l : length (drop v.next t) < length (drop at t) = shorter-left v.value _ s (sym e ∙ read-got t v (not-false v.read r)) in
-      omega (arith, length-drop v.next t, length-drop at t)
+  module _ (limit : ℕ) (what : Read ℕ) (told : Reads t limit what v) where
+    pub reads-within : (k : Token) → v ≡ Ok k → k.next ≤ length t
+    unfolding met_at
+    reads-within k e = rw e at told.within
 
-  pub number-onward : (limit : ℕ) → Reads t limit (number limit (drop at t)) v → not v.read ≡ false → at < v.next
-  number-onward limit r p = read-onward (number-shorter limit (drop at t)) r.says r.within p
+    pub reads-small : (k : Token) → v ≡ Ok k → k.value < limit
+    unfolding value_in
+    reads-small k e = rw e at told.small
 
-  pub beats-onward : Reads t field (beats (drop at t)) v → not v.read ≡ false → at < v.next
-  beats-onward r p = read-onward (beats-shorter (drop at t)) r.says r.within p
+    pub fault-within : (at : ℕ) → v ≡ Err at → at ≤ length t
+    unfolding met_at
+    fault-within at e = rw e at told.within
+
+  pub sizes-within : (what : Read (List ℕ)) → Sizes t what v → (k : Token) → v ≡ Ok k → k.next ≤ length t
+  unfolding met_at
+  sizes-within what told k e = rw e at told.within
+
+  pub fault-sized : (what : Read (List ℕ)) → Sizes t what v → (at : ℕ) → v ≡ Err at → at ≤ length t
+  unfolding met_at
+  fault-sized what told at e = rw e at told.within
+
+module _ (t : List ℕ) (at : ℕ) (v : Result Token ℕ) (k : Token) (e : v ≡ Ok k) where
+  read-onward : {what : Read ℕ} → Shorter (length (drop at t)) what → as_read t v ≡ what → k.next ≤ length t → at < k.next
+  read-onward s says p =
+      let l : length (drop k.next t) < length (drop at t) = shorter-left k.value _ s (sym says ∙ read-got t v k e) in
+      omega (arith, length-drop k.next t, length-drop at t)
+
+  pub number-onward : (limit : ℕ) → Reads t limit (number limit (drop at t)) v → at < k.next
+  number-onward limit r = read-onward (number-shorter limit (drop at t)) r.says (reads-within t v limit _ r k e)
+
+  pub beats-onward : Reads t field (beats (drop at t)) v → at < k.next
+  beats-onward r = read-onward (beats-shorter (drop at t)) r.says (reads-within t v field _ r k e)

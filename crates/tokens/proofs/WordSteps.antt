@@ -6,11 +6,11 @@ use mathlib.Core.List.{List, [], ◌∷◌}
 use Prim.Native.Nat.{ℕ, suc, ◌+◌, ◌-◌, ◌<◌, ◌≤◌}
 use native.Mathlib.Omega.{arith}
 use lib.ListN.{length, drop, get_or, drop_of_length-le}
-use lib.Dec.{eqb-suc-suc}
-use borrow.Author.Tests.{eq-eqb, ne_eqb}
+use lib.Dec.{leb, eqb-suc-suc}
+use borrow.Author.Tests.{eq-eqb, ne_eqb, le-leb}
 use borrow.Author.Rules.{rules}
 use Rattle.base.specs.Tests.{pick, every}
-use Rattle.base.proofs.TestLaws.{every-stop, told-true, told-false}
+use Rattle.base.proofs.TestLaws.{every-stop}
 use Rattle.ascii.specs.Words.{begins, same}
 use Rattle.ascii.proofs.WordSteps.{drop-next}
 use Rattle.ascii.proofs.NumberSteps.{not-two}
@@ -64,16 +64,16 @@ module _ (word t : List ℕ) (at i : ℕ) (inv : Compared word t at i) where
       in-text : at + i < length t
       in-text = omega arith
 
-      pub word-no-letter : not r ≡ true → false ≡ is_word word (drop at t)
+      pub word-no-letter : r ≡ false → false ≡ is_word word (drop at t)
       unfolding leading pick
       word-no-letter p =
-          let e = rw (drop-next word i more, drop-next t (at + i) in-text, told-false r _ told p) at inv.rest in
+          let e = rw (drop-next word i more, drop-next t (at + i) in-text, sym told ∙ p) at inv.rest in
           sym (same-short _ _) ∙ e
 
-      module _ (letter : not r ≡ false) where
+      module _ (letter : r ≡ true) where
         lettered : same (get_or word i 0 ∷ drop (i + 1) word) (get_or t (at + i) 0 ∷ leading is_letter (drop (at + i + 1) t)) ≡ is_word word (drop at t)
         unfolding leading pick
-        lettered = rw (drop-next word i more, drop-next t (at + i) in-text, told-true r _ told letter) at inv.rest
+        lettered = rw (drop-next word i more, drop-next t (at + i) in-text, sym told ∙ letter) at inv.rest
 
         pub word-other : (get_or word i 0 ≡ get_or t (at + i) 0 → ⊥) → false ≡ is_word word (drop at t)
         word-other n = sym (same-other _ _ _ _ n) ∙ lettered
@@ -84,16 +84,18 @@ module _ (word t : List ℕ) (at i : ℕ) (inv : Compared word t at i) where
             record { rest = rw a (sym (same_next _ _ _ _ e) ∙ lettered) }
 
   module _ (over : length word ≤ i) where
-    pub word_end : length t - at ≤ i → true ≡ is_word word (drop at t)
+    pub word_end : length t - at ≤ length word → leb (length t - at) (length word) ≡ is_word word (drop at t)
     unfolding leading
     word_end p =
         let q : length t ≤ at + i = omega arith in
         let e = rw (drop_of_length-le word over, drop_of_length-le t q) at inv.rest in
-        sym same_none ∙ e
+        rw (le-leb (length t - at) (length word) p) (sym same_none ∙ e)
 
-    pub word-done : i < length t - at → (r : Bool) → r ≡ is_letter (get_or t (at + i) 0) → not r ≡ is_word word (drop at t)
+    pub word-done : i ≤ length word → length word < length t - at → (r : Bool) → r ≡ is_letter (get_or t (at + length word) 0) → not r ≡ is_word word (drop at t)
     unfolding leading pick
-    word-done p r e =
+    word-done w p r f =
+        let l : length word ≡ i = omega arith in
+        let e : r ≡ is_letter (get_or t (at + i) 0) = rw l at f in
         let q : at + i < length t = omega arith in
         go r (is_letter (get_or t (at + i) 0)) e (rw (drop_of_length-le word over, drop-next t (at + i) q) at inv.rest) where
           go : (r b : Bool) → r ≡ b → same [] (pick b (get_or t (at + i) 0 ∷ leading is_letter (drop (at + i + 1) t)) []) ≡ is_word word (drop at t) → not r ≡ is_word word (drop at t)

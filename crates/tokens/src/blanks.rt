@@ -24,15 +24,12 @@ fn past_comment(text: &[u8], at: usize) -> usize
     requires { at ≤ length text.now }
     ensures { PassesComment text.now at result }
 {
-    let mut i = at;
-    while i < text.len() {
-        let b = text[i];
-        if b == NEWLINE {
+    for i in at..text.len() {
+        if text[i] == NEWLINE {
             return i;
         }
-        i += 1;
     }
-    i
+    text.len()
 }
 
 // The first byte from `at` on that is no space: most blanks are spaces, and this way they cost least.
@@ -40,15 +37,12 @@ fn past_spaces(text: &[u8], at: usize) -> usize
     requires { at ≤ length text.now }
     ensures { InBlanks text.now at result }
 {
-    let mut i = at;
-    while i < text.len() {
-        let b = text[i];
-        if b != SPACE {
+    for i in at..text.len() {
+        if text[i] != SPACE {
             return i;
         }
-        i += 1;
     }
-    i
+    text.len()
 }
 
 // The first byte from `at` on that is no blank, or the text's end.

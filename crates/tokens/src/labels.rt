@@ -6,7 +6,6 @@ ghost use Rattle.tokens.specs.Tokens.{label, bytes_in};
 ghost use Rattle.tokens.specs.Asked.{Sizes, Copyable};
 
 use crate::Token;
-use crate::numbers::stop;
 use ascii::NEWLINE;
 
 const QUOTE: u8 = b'"';
@@ -25,46 +24,41 @@ pub fn is_escaped(b: u8) -> bool
 }
 
 // How many bytes the label from `at` on stands for.
-pub fn label(text: &[u8], at: usize) -> Token
+pub fn label(text: &[u8], at: usize) -> Result<Token, usize>
     requires { at ≤ length text.now }
     ensures { Sizes text.now (label (drop at text.now)) result }
 {
-    if text.len() <= at {
-        return stop(at);
+    if text.len() <= at || text[at] != QUOTE {
+        return Err(at);
     }
-    let q = text[at];
-    if q != QUOTE {
-        return stop(at);
-    }
-    let mut n: u64 = 0;
-    let mut i = at + 1;
-    while i < text.len() {
+    let mut size = 0;
+    let mut escaped = false;
+    for i in at + 1..text.len() {
         let b = text[i];
-        i += 1;
-        if b == QUOTE {
-            return Token {
-                read: true,
-                value: n,
-                next: i,
-            };
-        }
-        if b == NEWLINE {
-            return stop(i - 1);
-        }
-        n += 1;
-        if b != BACKSLASH {
+        if escaped {
+            if !is_escaped(b) {
+                return Err(i);
+            }
+            escaped = false;
+            size += 1;
             continue;
         }
-        if text.len() <= i {
-            return stop(i);
+        if b == QUOTE {
+            return Ok(Token {
+                value: size,
+                next: i + 1,
+            });
         }
-        let c = text[i];
-        if !is_escaped(c) {
-            return stop(i);
+        if b == BACKSLASH {
+            escaped = true;
+            continue;
         }
-        i += 1;
+        if b == NEWLINE {
+            return Err(i);
+        }
+        size += 1;
     }
-    stop(i)
+    Err(text.len())
 }
 
 // Puts the label from `at` on, without the backslashes of its escapes, behind the first `to` bytes of `out`, which stay. Answers where the next byte goes.
@@ -72,20 +66,22 @@ pub fn put_label(text: &[u8], at: usize, out: &mut [u8], to: usize) -> usize
     requires { Copyable text.now at out.old to }
     ensures { Laid out.old to (bytes_in (label (drop at text.now))) out.new result }
 {
-    let mut i = at + 1;
     let mut next = to;
-    while text[i] != QUOTE {
+    let mut escaped = false;
+    for i in at + 1..text.len() {
         let b = text[i];
-        i += 1;
-        if b != BACKSLASH {
-            out[next] = b;
-            next += 1;
-            continue;
+        if !escaped {
+            if b == QUOTE {
+                return next;
+            }
+            if b == BACKSLASH {
+                escaped = true;
+                continue;
+            }
         }
-        let c = text[i];
-        i += 1;
-        out[next] = c;
+        out[next] = b;
         next += 1;
+        escaped = false;
     }
     next
 }

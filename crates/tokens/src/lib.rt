@@ -15,10 +15,9 @@ mod numbers;
 mod places;
 mod words;
 
-// What was read and the byte behind it, or the first byte that can't be: a number's or a delay's value, a label's size.
+// What was read, a number's or a delay's value or a label's size, and the byte behind it. Where nothing is, the first byte that can't be is told instead.
 #[derive(Clone, Copy)]
 pub struct Token {
-    pub read: bool,
     pub value: u64,
     pub next: usize,
 }

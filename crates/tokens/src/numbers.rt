@@ -1,59 +1,42 @@
 // "1 to 10 digits", below the limit of a field.
 ghost use Rattle.std.specs.Prelude.{◌≡◌, ◌+◌, ◌≤◌, ◌<◌, ◌^◌, length, drop};
 ghost use Rattle.tokens.specs.Tokens.{number};
-ghost use Rattle.tokens.specs.Asked.{stopped, ended_as, Reads};
+ghost use Rattle.tokens.specs.Asked.{ended_as, Reads};
 
 use crate::Token;
 use ascii::is_digit;
 
 const MOST_DIGITS: usize = 10;
 
-// A fault at this byte.
-pub fn stop(at: usize) -> Token
-    ensures { result ≡ stopped at }
-{
-    Token {
-        read: false,
-        value: 0,
-        next: at,
-    }
-}
-
 // The n digits from `at` on were all there are.
-fn ended(at: usize, n: usize, sum: u64, limit: u64) -> Token
+fn ended(at: usize, n: usize, sum: u64, limit: u64) -> Result<Token, usize>
     requires { at + n < 2 ^ 64 }
     ensures { result ≡ ended_as at n sum limit }
 {
-    if n < 1 {
-        return stop(at);
+    if n < 1 || limit <= sum {
+        return Err(at);
     }
-    if limit <= sum {
-        return stop(at);
-    }
-    Token {
-        read: true,
+    Ok(Token {
         value: sum,
         next: at + n,
-    }
+    })
 }
 
 // The number from `at` on.
-pub fn number(text: &[u8], at: usize, limit: u64) -> Token
+pub fn number(text: &[u8], at: usize, limit: u64) -> Result<Token, usize>
     requires { (at ≤ length text.now) × (1 ≤ limit) }
     ensures { Reads text.now limit (number limit (drop at text.now)) result }
 {
-    let mut sum: u64 = 0;
-    let mut n = 0;
-    while at + n < text.len() {
-        let b = text[at + n];
+    let mut sum = 0;
+    for i in at..text.len() {
+        let b = text[i];
         if !is_digit(b) {
-            return ended(at, n, sum, limit);
+            return ended(at, i - at, sum, limit);
         }
-        if MOST_DIGITS <= n {
-            return stop(at);
+        if MOST_DIGITS <= i - at {
+            return Err(at);
         }
-        sum = 10 * sum + (b - b'0') as u64;
-        n += 1;
+        sum = 10 * sum + u64::from(b - b'0');
     }
-    ended(at, n, sum, limit)
+    ended(at, text.len() - at, sum, limit)
 }

@@ -11,10 +11,7 @@ pub fn place_behind(before: &[u8]) -> Place
 {
     let mut line = 1;
     let mut column = 1;
-    let mut i = 0;
-    while i < before.len() {
-        let b = before[i];
-        i += 1;
+    for &b in before {
         if b == NEWLINE {
             line += 1;
             column = 1;

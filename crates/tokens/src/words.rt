@@ -17,24 +17,11 @@ pub fn is_word(word: &[u8], text: &[u8], at: usize) -> bool
     requires { at ≤ length text.now }
     ensures { result ≡ is_word word.now (drop at text.now) }
 {
-    let mut i = 0;
-    while i < word.len() {
-        if text.len() - at <= i {
+    let rest = text.len() - at;
+    for (i, &w) in word.iter().enumerate() {
+        if rest <= i || !is_letter(text[at + i]) || w != text[at + i] {
             return false;
         }
-        let b = text[at + i];
-        if !is_letter(b) {
-            return false;
-        }
-        let w = word[i];
-        if w != b {
-            return false;
-        }
-        i += 1;
     }
-    if text.len() - at <= i {
-        return true;
-    }
-    let b = text[at + i];
-    !is_letter(b)
+    rest <= word.len() || !is_letter(text[at + word.len()])
 }

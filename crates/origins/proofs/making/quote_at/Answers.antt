@@ -1,13 +1,14 @@
--- Each case says it.
--- Assumes nothing.
 use Rattle.origins.proofs.LineSteps.{quoting}
 use Rattle.origins.proofs.making.quote_at.Goals as goal
-
-pub number-n-requires : goal.number-n-requires
-number-n-requires c = search quoting
 
 pub past_blanks-requires : goal.past_blanks-requires
 past_blanks-requires c = search quoting
 
-pub returns : goal.returns
-returns c = search quoting
+pub past_blanks-requires-in-Err : goal.past_blanks-requires-in-Err
+past_blanks-requires-in-Err c = search quoting
+
+pub returns-in-Ok : goal.returns-in-Ok
+returns-in-Ok c = search quoting
+
+pub returns-in-Err : goal.returns-in-Err
+returns-in-Err c = search quoting

@@ -1,34 +1,17 @@
--- What the calls told decides.
--- Assumes nothing.
 use Rattle.script.proofs.GrammarSteps.{playing}
 use Rattle.script.proofs.grammar.played.Goals as goal
-
-pub is_word-requires : goal.is_word-requires
-is_word-requires c = search playing
 
 pub past_word-duration-requires : goal.past_word-duration-requires
 past_word-duration-requires c = search playing
 
-pub timed-requires : goal.timed-requires
-timed-requires c = search playing
-
 pub returns-then-is_word : goal.returns-then-is_word
 returns-then-is_word c = search playing
-
-pub is_word-requires-2 : goal.is_word-requires-2
-is_word-requires-2 c = search playing
 
 pub past_word-number-requires : goal.past_word-number-requires
 past_word-number-requires c = search playing
 
-pub parted-requires : goal.parted-requires
-parted-requires c = search playing
-
 pub returns-then-is_word-2 : goal.returns-then-is_word-2
 returns-then-is_word-2 c = search playing
-
-pub item-requires : goal.item-requires
-item-requires c = search playing
 
 pub returns : goal.returns
 returns c = search playing

@@ -1,16 +1,10 @@
--- What the call told decides.
--- Assumes nothing.
+use Rattle.std.specs.Prelude.{◌≡◌, Err}
+use borrow.Author.Rules.{rules}
 use Rattle.script.proofs.LineSteps.{sending}
 use Rattle.script.proofs.item.sent.Goals as goal
 
-pub number-n-requires : goal.number-n-requires
-number-n-requires c = search sending
-
-pub fault-requires : goal.fault-requires
-fault-requires c = search sending
-
-pub returns-then-not-n : goal.returns-then-not-n
-returns-then-not-n c = search sending
+pub returns-in_err-n : goal.returns-in_err-n
+returns-in_err-n c = let e : c.from_residual.result ≡ Err c.in_err-n.field-0.0 = search rules in search (sending, e, c.in_err-n.was)
 
 pub returns : goal.returns
-returns c = search sending
+returns c = search (sending, c.in_ok-n.was)

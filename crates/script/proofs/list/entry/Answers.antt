@@ -1,28 +1,16 @@
--- What the calls told decides.
--- Assumes nothing.
+use Rattle.std.specs.Prelude.{◌≡◌, Err}
+use borrow.Author.Rules.{rules}
 use Rattle.script.proofs.LineSteps.{entering}
 use Rattle.script.proofs.list.entry.Goals as goal
 
-pub number-n-requires : goal.number-n-requires
-number-n-requires c = search entering
-
-pub fault-requires : goal.fault-requires
-fault-requires c = search entering
-
-pub returns-then-not-n : goal.returns-then-not-n
-returns-then-not-n c = search entering
-
-pub fault-requires-then-n-next : goal.fault-requires-then-n-next
-fault-requires-then-n-next c = search entering
+pub returns-in_err-n : goal.returns-in_err-n
+returns-in_err-n c = let e : c.from_residual.result ≡ Err c.in_err-n.field-0.0 = search rules in search (entering, e, c.in_err-n.was)
 
 pub returns-then-n-next : goal.returns-then-n-next
-returns-then-n-next c = search entering
+returns-then-n-next c = search (entering, c.in_ok-n.was)
 
 pub past_blanks-quote-requires : goal.past_blanks-quote-requires
-past_blanks-quote-requires c = search entering
-
-pub named-requires : goal.named-requires
-named-requires c = search entering
+past_blanks-quote-requires c = search (entering, c.in_ok-n.was)
 
 pub returns : goal.returns
-returns c = search entering
+returns c = search (entering, c.in_ok-n.was)

@@ -1,16 +1,10 @@
--- What the calls told decides.
--- Assumes nothing.
+use Rattle.std.specs.Prelude.{◌≡◌, Err}
+use borrow.Author.Rules.{rules}
 use Rattle.script.proofs.LineSteps.{naming}
 use Rattle.script.proofs.list.named.Goals as goal
 
-pub label-l-requires : goal.label-l-requires
-label-l-requires c = search naming
-
-pub fault-requires : goal.fault-requires
-fault-requires c = search naming
-
-pub returns-then-not-l : goal.returns-then-not-l
-returns-then-not-l c = search naming
+pub returns-in_err-l : goal.returns-in_err-l
+returns-in_err-l c = let e : c.from_residual.result ≡ Err c.in_err-l.field-0.0 = search rules in search (naming, e, c.in_err-l.was)
 
 pub returns : goal.returns
-returns c = search naming
+returns c = search (naming, c.in_ok-l.was)

@@ -1,16 +1,10 @@
--- What the call told decides.
--- Assumes nothing.
+use Rattle.std.specs.Prelude.{◌≡◌, Err}
+use borrow.Author.Rules.{rules}
 use Rattle.script.proofs.LineSteps.{timing}
 use Rattle.script.proofs.marks.timed.Goals as goal
 
-pub beats-d-requires : goal.beats-d-requires
-beats-d-requires c = search timing
-
-pub fault-requires : goal.fault-requires
-fault-requires c = search timing
-
-pub returns-then-not-d : goal.returns-then-not-d
-returns-then-not-d c = search timing
+pub returns-in_err-d : goal.returns-in_err-d
+returns-in_err-d c = let e : c.from_residual.result ≡ Err c.in_err-d.field-0.0 = search rules in search (timing, e, c.in_err-d.was)
 
 pub returns : goal.returns
-returns c = search timing
+returns c = search (timing, c.in_ok-d.was)

@@ -1,12 +1,7 @@
 -- The invariant: what is left behind the comment from here is what is left behind it.
 -- Assumes nothing.
-use Prim.Native.Nat.{◌-◌}
-use lib.ListN.{length}
 use Rattle.tokens.proofs.BlankSteps.{InComment}
 use Rattle.tokens.proofs.blanks.past_comment.Given as goal
 
 abbrev pub invariant-loop-i : goal.invariant-loop-i
 invariant-loop-i l = InComment l.text l.at l.i
-
-abbrev pub decreases-loop-i : goal.decreases-loop-i
-decreases-loop-i l = length l.text - l.i

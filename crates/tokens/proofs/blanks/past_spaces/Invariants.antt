@@ -1,12 +1,7 @@
 -- The invariant: all passed so far are blanks.
 -- Assumes nothing.
-use Prim.Native.Nat.{◌-◌}
-use lib.ListN.{length}
 use Rattle.tokens.specs.Asked.{InBlanks}
 use Rattle.tokens.proofs.blanks.past_spaces.Given as goal
 
 abbrev pub invariant-loop-i : goal.invariant-loop-i
 invariant-loop-i l = InBlanks l.text l.at l.i
-
-abbrev pub decreases-loop-i : goal.decreases-loop-i
-decreases-loop-i l = length l.text - l.i

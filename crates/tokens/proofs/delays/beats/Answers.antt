@@ -1,40 +1,28 @@
--- What the calls told decides.
--- Assumes nothing.
+use Rattle.std.specs.Prelude.{◌≡◌, Err}
+use borrow.Author.Rules.{rules}
 use Rattle.tokens.proofs.BeatsSteps.{delays}
+use Rattle.tokens.proofs.delays.beats.Goals.{then-text-n-via-then-text-n, then-text-n-via-else-text-n+then-text-n-ne-SLASH}
 use Rattle.tokens.proofs.delays.beats.Goals as goal
 
-pub number-n-requires : goal.number-n-requires
-number-n-requires c = search delays
-
-pub returns-then-not-n : goal.returns-then-not-n
-returns-then-not-n c = search delays
+pub returns-in_err-n : goal.returns-in_err-n
+returns-in_err-n c = let e : c.from_residual.result ≡ Err c.in_err-n.field-0.0 = search rules in search (delays, e, c.in_err-n.was)
 
 pub valued-requires : goal.valued-requires
-valued-requires c = search delays
+valued-requires c = search (delays, c.in_ok-n.was)
 
-pub returns-then-text-after : goal.returns-then-text-after
-returns-then-text-after c = search delays
+pub returns-then-text-n : goal.returns-then-text-n
+returns-then-text-n c =
+    elim c.then-text-n.branch [
+      | then-text-n-via-then-text-n w ↦ search (delays, c.in_ok-n.was)
+      | then-text-n-via-else-text-n+then-text-n-ne-SLASH w ↦ search (delays, c.in_ok-n.was)
+    ]
 
-pub bounds-text-after : goal.bounds-text-after
-bounds-text-after c = search delays
-
-pub valued-requires-then-b-ne-SLASH : goal.valued-requires-then-b-ne-SLASH
-valued-requires-then-b-ne-SLASH c = search delays
-
-pub returns-then-b-ne-SLASH : goal.returns-then-b-ne-SLASH
-returns-then-b-ne-SLASH c = search delays
-
-pub overflow_add-after : goal.overflow_add-after
-overflow_add-after c = search delays
-
-pub number-d-requires : goal.number-d-requires
-number-d-requires c = search delays
-
-pub returns-then-not-d : goal.returns-then-not-d
-returns-then-not-d c = search delays
+pub returns-in_err-d : goal.returns-in_err-d
+returns-in_err-d c =
+    let e : c.from_residual-in_err-d.result ≡ Err c.in_err-d.field-0.0 = search rules in search (delays, e, c.in_ok-n.was, c.in_err-d.was)
 
 pub valued-requires-2 : goal.valued-requires-2
-valued-requires-2 c = search delays
+valued-requires-2 c = search (delays, c.in_ok-n.was)
 
 pub returns : goal.returns
-returns c = search delays
+returns c = search (delays, c.in_ok-n.was, c.in_ok-d.was)

@@ -1,22 +1,9 @@
--- Each test in turn.
--- Assumes nothing.
 use Rattle.tokens.proofs.NumberSteps.{ending}
+use Rattle.tokens.proofs.numbers.ended.Goals.{then-n-lt1-via-then-n-lt1, then-n-lt1-via-else-n-lt1+then-limit-sum}
 use Rattle.tokens.proofs.numbers.ended.Goals as goal
 
-pub stop-requires : goal.stop-requires
-stop-requires c = search ending
-
 pub returns-then-n-lt1 : goal.returns-then-n-lt1
-returns-then-n-lt1 c = search ending
-
-pub stop-requires-then-limit-sum : goal.stop-requires-then-limit-sum
-stop-requires-then-limit-sum c = search ending
-
-pub returns-then-limit-sum : goal.returns-then-limit-sum
-returns-then-limit-sum c = search ending
-
-pub overflow_add-result : goal.overflow_add-result
-overflow_add-result c = search ending
+returns-then-n-lt1 c = elim c.then-n-lt1.branch [ then-n-lt1-via-then-n-lt1 w ↦ search ending | then-n-lt1-via-else-n-lt1+then-limit-sum w ↦ search ending ]
 
 pub returns : goal.returns
 returns c = search ending

@@ -1,12 +1,7 @@
 -- The invariant: the rest of the word is compared with the rest of the letters.
 -- Assumes nothing.
-use Prim.Native.Nat.{◌-◌}
-use lib.ListN.{length}
 use Rattle.tokens.proofs.WordSteps.{Compared}
 use Rattle.tokens.proofs.words.is_word.Given as goal
 
 abbrev pub invariant-loop-i : goal.invariant-loop-i
 invariant-loop-i l = Compared l.word l.text l.at l.i
-
-abbrev pub decreases-loop-i : goal.decreases-loop-i
-decreases-loop-i l = length l.word - l.i
