@@ -1,5 +1,6 @@
 -- Each step through the message list, in the code's own terms. The invariant: what is laid and what is owed of the labels left are together those of all.
 -- Assumes nothing.
+use Rattle.std.specs.Prelude.{Option, Some, None, IsSome}
 use mathlib.Core.Path.{◌≡◌, refl, sym, ap, ◌∙◌}
 use mathlib.Core.Bool.{Bool, true, false, not}
 use mathlib.Core.List.{List, [], ◌++◌, append_assoc, append-nil}
@@ -19,75 +20,27 @@ use Rattle.text.specs.declared.Stage.TheVariants.{Start, Listing, Timed, Playing
 use Rattle.text.specs.Grammar.{Line, heading, message, after, further, may_end, Script, done, more, script}
 use Rattle.text.specs.Said.{labels_of, durations_of, items_of, piece_of}
 use Rattle.script.specs.declared.Found.{Found}
-use Rattle.script.specs.declared.Found.TheVariants.{Heading, Message, Event, Part, Send, Group, Close, Fault}
+use Rattle.script.specs.declared.Found.TheVariants.{Heading, Message, Event, Part, Send, Group, Close}
 use Rattle.script.specs.Steps.{line_in, Fits, fits_message}
 use Rattle.script.specs.Stages.{held}
 use Rattle.script.specs.Balanced.{BeforeEvent, behind_list, behind_event, behind_items, BeforePart, first_part, next_part, Balanced, ends, heads, lists, times, parts, sends, opens, closes}
 use Rattle.reader.specs.declared.turns.Turn.{Turn}
-use Rattle.reader.specs.declared.listing.Label.{Label}
-use Rattle.reader.specs.Turns.{Turnable, Turns, no_label, label_in}
+use Rattle.reader.specs.Turns.{Turnable, Turns}
 use Rattle.reader.specs.Filled.{Tellable, Headed, Begun, Listed}
 use Rattle.filing.specs.Bodies.{ListRoom}
 use Rattle.reader.proofs.TurnSteps.{turn-less}
 
 -- ---- the label of a message
 
-pub label-message : (found : Found) (start size : ℕ) → found ≡ Message start size → record { some = true; start = start; size = size } ≡ label_in found
-unfolding label_in
-label-message found start size e = rw e
-
-module _ (found : Found) (r : Label) where
-  pub label-heading : found ≡ Heading → r ≡ no_label → r ≡ label_in found
-  unfolding label_in
-  label-heading e p = rw e p
-
-  pub label-event : (g : ℕ) → found ≡ Event g → r ≡ no_label → r ≡ label_in found
-  unfolding label_in
-  label-event g e p = rw e p
-
-  pub label-part : (n : ℕ) → found ≡ Part n → r ≡ no_label → r ≡ label_in found
-  unfolding label_in
-  label-part n e p = rw e p
-
-  pub label-send : (d n : ℕ) → found ≡ Send d n → r ≡ no_label → r ≡ label_in found
-  unfolding label_in
-  label-send d n e p = rw e p
-
-  pub label-group : (d w v : ℕ) → found ≡ Group d w v → r ≡ no_label → r ≡ label_in found
-  unfolding label_in
-  label-group d w v e p = rw e p
-
-  pub label-close : found ≡ Close → r ≡ no_label → r ≡ label_in found
-  unfolding label_in
-  label-close e p = rw e p
-
-  pub label-fault : found ≡ Fault → r ≡ no_label → r ≡ label_in found
-  unfolding label_in
-  label-fault e p = rw e p
-
-pub ruleset labelling = (label-heading, label-message, label-event, label-part, label-send, label-group, label-close, label-fault, rules)
-
-label-told : (found : Found) → (label_in found).some ≡ true → found ≡ Message (label_in found).start (label_in found).size
-unfolding label_in
-label-told Heading e = let z : ◌≡◌ {A = ℕ} 0 1 = cc in absurd (omega arith)
-label-told (Message start size) e = refl
-label-told (Event g) e = let z : ◌≡◌ {A = ℕ} 0 1 = cc in absurd (omega arith)
-label-told (Part n) e = let z : ◌≡◌ {A = ℕ} 0 1 = cc in absurd (omega arith)
-label-told (Send d n) e = let z : ◌≡◌ {A = ℕ} 0 1 = cc in absurd (omega arith)
-label-told (Group d w v) e = let z : ◌≡◌ {A = ℕ} 0 1 = cc in absurd (omega arith)
-label-told Close e = let z : ◌≡◌ {A = ℕ} 0 1 = cc in absurd (omega arith)
-label-told Fault e = let z : ◌≡◌ {A = ℕ} 0 1 = cc in absurd (omega arith)
-
-message-told : (t : List ℕ) (found : Found) (l : List ℕ) → line_in t found ≡ message l → (label_in found).some ≡ true
-unfolding label_in line_in
-message-told t Heading l e = let z : ◌≡◌ {A = ℕ} 0 1 = cc in absurd (omega arith)
-message-told t (Message start size) l e = refl
-message-told t (Event g) l e = let z : ◌≡◌ {A = ℕ} 0 1 = cc in absurd (omega arith)
-message-told t (Part n) l e = let z : ◌≡◌ {A = ℕ} 0 1 = cc in absurd (omega arith)
-message-told t (Send d n) l e = let z : ◌≡◌ {A = ℕ} 0 1 = cc in absurd (omega arith)
-message-told t (Group d w v) l e = let z : ◌≡◌ {A = ℕ} 0 1 = cc in absurd (omega arith)
-message-told t Close l e = let z : ◌≡◌ {A = ℕ} 0 1 = cc in absurd (omega arith)
-message-told t Fault l e = let z : ◌≡◌ {A = ℕ} 0 1 = cc in absurd (omega arith)
+message-told : (t : List ℕ) (found : Found) (l : List ℕ) → line_in t found ≡ message l → ((start size : ℕ) → found ≡ Message start size → ⊥) → ⊥
+unfolding line_in
+message-told t Heading l e p = let z : ◌≡◌ {A = ℕ} 0 1 = cc in omega arith
+message-told t (Message start size) l e p = p start size refl
+message-told t (Event g) l e p = let z : ◌≡◌ {A = ℕ} 0 1 = cc in omega arith
+message-told t (Part n) l e p = let z : ◌≡◌ {A = ℕ} 0 1 = cc in omega arith
+message-told t (Send d n) l e p = let z : ◌≡◌ {A = ℕ} 0 1 = cc in omega arith
+message-told t (Group d w v) l e p = let z : ◌≡◌ {A = ℕ} 0 1 = cc in omega arith
+message-told t Close l e p = let z : ◌≡◌ {A = ℕ} 0 1 = cc in omega arith
 
 -- ---- behind the list stands no message
 
@@ -141,20 +94,25 @@ pub heading-asked : (t : List ℕ) → Tellable t → Turnable t 0 Start
 unfolding held
 heading-asked t a = record { balanced = a.balanced; within = omega arith; few = omega arith }
 
-pub heading-past : (t : List ℕ) (s : Turn) → Tellable t → Turns t 0 Start s → Headed t s.next
-unfolding after labels_of durations_of items_of
-heading-past t s a turns = go s.over refl where
-  go : (b : Bool) → s.over ≡ b → Headed t s.next
-  go true e = absurd (start-goes a.balanced (turns.over e))
-  go false e =
-      let d = turns.more e in
+module _ (t : List ℕ) (v : Option Turn) (a : Tellable t) (turns : Turns t 0 Start v) where
+  -- A text without a fault has a line.
+  pub heading-there : IsSome v
+  heading-there = go v refl where
+    go : (w : Option Turn) → v ≡ w → IsSome w
+    go (Some s) e = refl
+    go None e = absurd (start-goes a.balanced (turns.over e))
+
+  pub heading-past : (s : Turn) → v ≡ Some s → Headed t s.next
+  unfolding after labels_of durations_of items_of
+  heading-past s e =
+      let d = turns.more s e in
       let b : Balanced Start (more (line_in t s.found) (script s.stage (drop s.next t))) = rw d.says at a.balanced in
       let l : line_in t s.found ≡ heading = start-line b in
       let h : s.stage ≡ Listing 0 = rw l at d.behind in
       let m : script Start t ≡ more heading (script (Listing 0) (drop s.next t)) = rw (l, h) at d.says in
       record { left = rw h at d.left; labels = rw m; durations = rw m; items = rw m }
 
-pub ruleset headings = (heading-asked, heading-past, rules)
+pub ruleset headings = (heading-asked, heading-there, heading-past, rules)
 
 -- ---- the invariant
 
@@ -209,30 +167,22 @@ module _ (t e₀ l₀ e l : List ℕ) (at n from : ℕ) (inv : FillingList t e�
       let b' : take from l ≡ text_bytes (labels_of (script Start t)) = sym (append-nil _) ∙ b in
       record { entries = rw c' at a'; labels = rw f' at b'; begun = rw c' at inv.begun; room = inv.room }
 
-  module _ (s : Turn) (turns : Turns t at (Listing n) s) where
-    pub list_over : s.over ≡ true → Listed t e l at
+  module _ (v : Option Turn) (turns : Turns t at (Listing n) v) where
+    pub list_over : v ≡ None → Listed t e l at
     unfolding labels_of
     list_over p = list_done (rw (turns.over p))
 
-    module _ (no : s.over ≡ false) (b : Label) (told : b ≡ label_in s.found) where
-      pub list-end : not b.some ≡ true → Listed t e l at
+    module _ (s : Turn) (no : v ≡ Some s) where
+      -- What is found is no message.
+      pub list-end : ((start size : ℕ) → s.found ≡ Message start size → ⊥) → Listed t e l at
       list-end p =
-          let d = turns.more no in
-          let q : (name : List ℕ) → line_in t s.found ≡ message name → ⊥ = λ name f. let y : b.some ≡ true = rw told (message-told t s.found name f) in let z : ◌≡◌ {A = ℕ} 0 1 = cc in omega arith in
+          let d = turns.more s no in
+          let q : (name : List ℕ) → line_in t s.found ≡ message name → ⊥ = λ name f. message-told t s.found name f p in
           list_done (rw d.says (no_message (rw d.says at inv.begun.left.balanced) q))
 
-      module _ (p : not b.some ≡ false) where
-        is-message : s.found ≡ Message b.start b.size
-        is-message =
-            let some : (label_in s.found).some ≡ true = rw told at (not-false b.some p) in
-            rw told (label-told s.found some)
-          where
-            not-false : (x : Bool) → not x ≡ false → x ≡ true
-            not-false true q = refl
-            not-false false q = let z : ◌≡◌ {A = ℕ} 0 1 = cc in absurd (omega arith)
-
+      module _ (start size : ℕ) (is-message : s.found ≡ Message start size) where
         name : List ℕ
-        name = bytes_in (label (drop b.start t))
+        name = bytes_in (label (drop start t))
 
         says-message : line_in t s.found ≡ message name
         unfolding line_in name
@@ -240,17 +190,17 @@ module _ (t e₀ l₀ e l : List ℕ) (at n from : ℕ) (inv : FillingList t e�
 
         behind-message : s.stage ≡ Listing (n + 1)
         unfolding after further
-        behind-message = rw (says-message, ← add-one n) at (turns.more no).behind
+        behind-message = rw (says-message, ← add-one n) at (turns.more s no).behind
 
         script-message : script (Listing n) (drop at t) ≡ more (message name) (script (Listing (n + 1)) (drop s.next t))
         script-message =
-            (turns.more no).says
+            (turns.more s no).says
             ∙ ap (λ (x : Line). more x (script s.stage (drop s.next t))) says-message
             ∙ ap (λ (x : Stage). more (message name) (script x (drop s.next t))) behind-message
 
-        fits-name : (is_read (label (drop b.start t)) ≡ true) × (b.size ≡ length name)
+        fits-name : (is_read (label (drop start t)) ≡ true) × (size ≡ length name)
         unfolding name
-        fits-name = go (rw is-message at (turns.more no).fits) where
+        fits-name = go (rw is-message at (turns.more s no).fits) where
           go : {start size : ℕ} → Fits t (Message start size) → (is_read (label (drop start t)) ≡ true) × (size ≡ length (bytes_in (label (drop start t))))
           go (fits_message f g) = (f, g)
 
@@ -272,28 +222,28 @@ module _ (t e₀ l₀ e l : List ℕ) (at n from : ℕ) (inv : FillingList t e�
           pub entry-room : message_size * n + message_size ≤ length e
           entry-room = let f = few in omega (arith, list_count, inv.room.entries)
 
-          pub size_room : b.size < 65536
+          pub size_room : size < 65536
           size_room = let f = few in omega (arith, list-size, fits-name.1)
 
-          pub label-room : Copyable t b.start l from
+          pub label-room : Copyable t start l from
           unfolding name
           label-room = let f = few in record { labelled = fits-name.0; room = omega (arith, list-size, inv.room.labels) }
 
-          pub list-step : (e' l' : List ℕ) (q r : ℕ) → Laid e (message_size * n) (entry_of from b.size) e' q → q ≡ message_size * n + message_size
-              → Laid l from (bytes_in (label (drop b.start t))) l' r → FillingList t e₀ l₀ e' l' s.next (n + 1) r
+          pub list-step : (e' l' : List ℕ) (q r : ℕ) → Laid e (message_size * n) (entry_of from size) e' q → q ≡ message_size * n + message_size
+              → Laid l from (bytes_in (label (drop start t))) l' r → FillingList t e₀ l₀ e' l' s.next (n + 1) r
           unfolding entry_of labels_of durations_of items_of entry_bytes text_bytes name
           list-step e' l' q r le qe ll =
               let ls = labels_of (script (Listing (n + 1)) (drop s.next t)) in
-              let g : b.size ≡ length name = fits-name.1 in
+              let g : size ≡ length name = fits-name.1 in
               let a : r ≡ from + length name = ll.stop in
               let z : message_size * (n + 1) ≡ q = omega arith in
               let oe : take (message_size * n) e ++ (le16 from ++ (le16 (length name) ++ entry_bytes (from + length name) ls)) ≡ entry_bytes 0 (labels_of (script Start t)) =
               rw script-message at inv.entries in
-              let oe' : take (message_size * n) e ++ (entry_of from b.size ++ entry_bytes r ls) ≡ entry_bytes 0 (labels_of (script Start t)) = rw (a, g, append_assoc (le16 from) (le16 (length name)) (entry_bytes (from + length name) ls)) oe in
+              let oe' : take (message_size * n) e ++ (entry_of from size ++ entry_bytes r ls) ≡ entry_bytes 0 (labels_of (script Start t)) = rw (a, g, append_assoc (le16 from) (le16 (length name)) (entry_bytes (from + length name) ls)) oe in
               let ol : take from l ++ (name ++ text_bytes ls) ≡ text_bytes (labels_of (script Start t)) = rw script-message at inv.labels in
               record {
                 begun = record {
-                  left = rw behind-message at (turns.more no).left;
+                  left = rw behind-message at (turns.more s no).left;
                   durations = rw script-message at inv.begun.durations;
                   items = rw script-message at inv.begun.items;
                 };

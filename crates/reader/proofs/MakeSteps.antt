@@ -34,8 +34,6 @@ use Rattle.text.specs.declared.TextError.TheVariants.{NoRoom, BadText, BadFile}
 use Rattle.text.specs.Grammar.{Script, done, more, fault, script}
 use Rattle.text.specs.Said.{piece_of, Reading, piece, unread, told, said}
 use Rattle.text.specs.Transcripts.{room_left, piece_right, judged, fault_at, answered, file_of, read_answer}
-use Rattle.script.specs.declared.Tally.{Tally}
-use Rattle.script.specs.declared.Tally.TheVariants as tally
 use Rattle.script.specs.Tallies.{tally_of}
 use Rattle.script.proofs.BalancedLaws.{counted-balanced, counted-said, counts-said}
 use Rattle.reader.specs.Filled.{Begun, Listed, Paged, Writable, Settles, Sayable, Answers}
@@ -62,11 +60,11 @@ pub ruleset writes = (page-begun, write-asked, written-file, rules)
 -- ---- the file's answer
 
 module _ (f m m' : List ℕ) (v : Result (Unit {0}) Fault) (a : Settled f m m' v) where
-  pub settle-refused : (x : Fault) → v ≡ Err x → Settles f m m' (Err (BadFile x))
+  pub settle-refused : (x : Fault) (r : Result ℕ TextError) → v ≡ Err x → r ≡ Err (BadFile x) → Settles f m m' r
   unfolding judged room_left settled
-  settle-refused x p =
+  settle-refused x r p e =
       let z = verdict-refused (checked f) v x a.verdict p in
-      record { answer = rw z; left = rw z at a.left }
+      record { answer = rw (z, e); left = rw e (rw z at a.left) }
 
   pub settle-made : v ≡ Ok tt → Settles f m m' (Ok (length f))
   unfolding judged room_left settled
@@ -80,11 +78,11 @@ module _ (t : List ℕ) (c : Counts) (m : List ℕ) (asked : Sayable t c m) wher
   says-counts : counts_right (counts_in (piece_of (script Start t))) ≡ counts_right c
   says-counts = rw asked.counts
 
-  pub count-refused : (v : Result (Unit {0}) Fault) (x : Fault) → v ≡ verdict_of (counts_right c) → v ≡ Err x → Answers t m m (Err (BadFile x))
+  pub count-refused : (v : Result (Unit {0}) Fault) (x : Fault) (r : Result ℕ TextError) → v ≡ verdict_of (counts_right c) → v ≡ Err x → r ≡ Err (BadFile x) → Answers t m m r
   unfolding answered piece_right first_fault judged room_left
-  count-refused v x e p =
+  count-refused v x r e p q =
       let z : counts_right (counts_in (piece_of (script Start t))) ≡ refused x = says-counts ∙ verdict-refused (counts_right c) v x e p in
-      record { answer = rw (asked.says, z); left = refl }
+      record { answer = rw (asked.says, z, q); left = rw q }
 
   pub make-asked : Counted c → (file : List ℕ) → longest_score ≤ length file → Writable t c file
   make-asked k file r = record { told = record { balanced = asked.balanced; counted = rw asked.counts at k }; counts = asked.counts; room = r }
@@ -143,14 +141,14 @@ module _ (t m : List ℕ) where
   unfolding room_left
   left-short = refl
 
-  module _ (v : Tally) (found : v ≡ tally_of (said t)) where
-    module _ (at : ℕ) (k : v ≡ tally.Faulty at) where
+  module _ (v : Result Counts ℕ) (found : v ≡ tally_of (said t)) where
+    module _ (at : ℕ) (k : v ≡ Err at) where
       is-unread : said t ≡ unread at
       unfolding tally_of
       is-unread = go (said t) refl where
         go : (r : Reading) → said t ≡ r → said t ≡ unread at
-        go (unread b) e = let f : v ≡ tally.Faulty b = rw e at found in let z : b ≡ at = cc in rw z at e
-        go (piece p) e = let f : v ≡ tally.Counted (counts_in p) = rw e at found in let z : ◌≡◌ {A = ℕ} 0 1 = cc in absurd (omega arith)
+        go (unread b) e = let f : v ≡ Err b = rw e at found in let z : b ≡ at = cc in rw z at e
+        go (piece p) e = let f : v ≡ Ok (counts_in p) = rw e at found in let z : ◌≡◌ {A = ℕ} 0 1 = cc in absurd (omega arith)
 
       pub fault-within : at ≤ length t
       unfolding said
@@ -164,8 +162,8 @@ module _ (t m : List ℕ) where
       unfolding room_left fault_at
       left-fault r q = rw q
 
-    module _ (c : Counts) (k : v ≡ tally.Counted c) where
-      told-counts : tally.Counted c ≡ tally_of (said t)
+    module _ (c : Counts) (k : v ≡ Ok c) where
+      told-counts : Ok c ≡ tally_of (said t)
       told-counts = sym k ∙ found
 
       pub read_asked : longest_score ≤ length m → Sayable t c m

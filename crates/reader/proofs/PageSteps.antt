@@ -1,6 +1,7 @@
 -- Each step through the page, in the code's own terms. The invariant: what the machine makes of the lines left, from the items laid, is the page; and of the
 -- durations, what is laid and what is owed are together those of all.
 -- Assumes nothing.
+use Rattle.std.specs.Prelude.{Option, Some, None}
 use mathlib.Core.Path.{◌≡◌, refl, sym, ap, ◌∙◌}
 use mathlib.Core.Bool.{true, false}
 use mathlib.Core.List.{List, [], ◌∷◌, append-nil}
@@ -19,8 +20,8 @@ use Rattle.text.specs.declared.Stage.{Stage}
 use Rattle.text.specs.declared.Stage.TheVariants.{Start, Listing}
 use Rattle.text.specs.Grammar.{Line, heading, message, event, part, send, group, close, after, Script, more, script}
 use Rattle.text.specs.Said.{event_of, durations_of, items_of, piece_of}
-use Rattle.script.specs.declared.Found.TheVariants.{Heading, Message, Event, Part, Send, Group, Close, Fault}
-use Rattle.script.specs.Steps.{line_in, is_fault, Fits, fits_event, fits_part, fits_send, fits_group}
+use Rattle.script.specs.declared.Found.TheVariants.{Heading, Message, Event, Part, Send, Group, Close}
+use Rattle.script.specs.Steps.{line_in, Fits, fits_event, fits_part, fits_send, fits_group}
 use Rattle.script.specs.Balanced.{Balanced}
 use Rattle.reader.specs.declared.turns.Turn.{Turn}
 use Rattle.reader.specs.Items.{send_item, group_item}
@@ -129,8 +130,8 @@ few-told : (t : List ℕ) → Tellable t → (length (durations_of (script Start
 unfolding counts_in piece_of
 few-told t a = (a.counted.events, a.counted.items)
 
-module _ (t d₀ m₀ d m : List ℕ) (at : ℕ) (stage : Stage) (e p n o : ℕ) (inv : FillingPage t d₀ m₀ d m at stage e p n o) (s : Turn) (turns : Turns t at stage s) where
-  pub page-over : s.over ≡ true → Paged t d m
+module _ (t d₀ m₀ d m : List ℕ) (at : ℕ) (stage : Stage) (e p n o : ℕ) (inv : FillingPage t d₀ m₀ d m at stage e p n o) (v : Option Turn) (turns : Turns t at stage v) where
+  pub page-over : v ≡ None → Paged t d m
   unfolding run durations_of duration_bytes items_of
   page-over q =
       let g = rw (turns.over q) at inv.going in
@@ -143,7 +144,7 @@ module _ (t d₀ m₀ d m : List ℕ) (at : ℕ) (stage : Stage) (e p n o : ℕ)
       let i : take (item_size * n) m ≡ item_bytes (items_of 0 0 0 (script Start t)) = g.laid ∙ ap item_bytes f in
       record { durations = rw a' at h; items = rw b' at i; room = inv.room }
 
-  module _ (no : s.over ≡ false) where
+  module _ (s : Turn) (no : v ≡ Some s) where
     left : Script
     left = script s.stage (drop s.next t)
 
@@ -153,7 +154,7 @@ module _ (t d₀ m₀ d m : List ℕ) (at : ℕ) (stage : Stage) (e p n o : ℕ)
     unfolding left
     goes_on d' m' e' p' n' o' depth z g r fe fn sp i kd km =
         record {
-          left = (turns.more no).left;
+          left = (turns.more s no).left;
           going = rw z g;
           room = r;
           few_events = fe;
@@ -167,21 +168,16 @@ module _ (t d₀ m₀ d m : List ℕ) (at : ℕ) (stage : Stage) (e p n o : ℕ)
     module _ (l : Line) (is : line_in t s.found ≡ l) where
       says : script stage (drop at t) ≡ more l left
       unfolding left
-      says = (turns.more no).says ∙ ap (λ (x : Line). more x (script s.stage (drop s.next t))) is
+      says = (turns.more s no).says ∙ ap (λ (x : Line). more x (script s.stage (drop s.next t))) is
 
       balanced : Balanced stage (more l left)
       balanced = rw says at inv.left.balanced
 
       behind : s.stage ≡ after l stage
-      behind = (turns.more no).behind ∙ ap (λ (x : Line). after x stage) is
+      behind = (turns.more s no).behind ∙ ap (λ (x : Line). after x stage) is
 
       before : Going t d m (more l left) (open_in stage) e p n o
       before = rw says at inv.going
-
-    module _ (k : s.found ≡ Fault) where
-      pub page-fault : Paged t d m
-      unfolding is_fault
-      page-fault = let z : is_fault Fault ≡ false = rw k at (turns.more no).sure in let y : ◌≡◌ {A = ℕ} 0 1 = cc in absurd (omega arith)
 
     module _ (k : s.found ≡ Heading) where
       is-heading : line_in t s.found ≡ heading
@@ -214,7 +210,7 @@ module _ (t d₀ m₀ d m : List ℕ) (at : ℕ) (stage : Stage) (e p n o : ℕ)
       is-event = rw k
 
       pub event-small : x < field
-      event-small = go (rw k at (turns.more no).fits) where
+      event-small = go (rw k at (turns.more s no).fits) where
         go : Fits t (Event x) → x < field
         go (fits_event q) = q
 
@@ -238,7 +234,7 @@ module _ (t d₀ m₀ d m : List ℕ) (at : ℕ) (stage : Stage) (e p n o : ℕ)
       is-part = rw k
 
       part_small : q < 256
-      part_small = go (rw k at (turns.more no).fits) where
+      part_small = go (rw k at (turns.more s no).fits) where
         go : Fits t (Part q) → q < 256
         go (fits_part l) = l
 
@@ -258,7 +254,7 @@ module _ (t d₀ m₀ d m : List ℕ) (at : ℕ) (stage : Stage) (e p n o : ℕ)
       is-send = rw k
 
       send-small : (x < field) × (y < 65536)
-      send-small = go (rw k at (turns.more no).fits) where
+      send-small = go (rw k at (turns.more s no).fits) where
         go : Fits t (Send x y) → (x < field) × (y < 65536)
         go (fits_send a b) = (a, b)
 
@@ -279,34 +275,34 @@ module _ (t d₀ m₀ d m : List ℕ) (at : ℕ) (stage : Stage) (e p n o : ℕ)
             let z : open_in s.stage ≡ open_in stage = rw (behind (send x y) is-send) in
             goes_on d m' e p (n + 1) o (open_in stage) z (going-send m' r (before (send x y) is-send) laid q) (item_room m' laid.size) inv.few_events send-few inv.small (omega (arith, inv.inside)) inv.durations_kept (laid.size ∙ inv.items_kept)
 
-    module _ (x y v : ℕ) (k : s.found ≡ Group x y v) where
-      is-group : line_in t s.found ≡ group x y v
+    module _ (x y z' : ℕ) (k : s.found ≡ Group x y z') where
+      is-group : line_in t s.found ≡ group x y z'
       unfolding line_in
       is-group = rw k
 
-      group-small : (x < field) × (y ≤ 1) × (v ≤ 3)
-      group-small = go (rw k at (turns.more no).fits) where
-        go : Fits t (Group x y v) → (x < field) × (y ≤ 1) × (v ≤ 3)
+      group-small : (x < field) × (y ≤ 1) × (z' ≤ 3)
+      group-small = go (rw k at (turns.more s no).fits) where
+        go : Fits t (Group x y z') → (x < field) × (y ≤ 1) × (z' ≤ 3)
         go (fits_group a b c) = (a, b, c)
 
       pub group-synchrony : y ≤ 1
       group-synchrony = group-small.1
 
-      pub group-error : v ≤ 3
+      pub group-error : z' ≤ 3
       group-error = group-small.2
 
       module _ (asked : Tellable t) where
         group-few : n + 1 ≤ most_items
-        group-few = let f = few-told t asked in omega (arith, group-owed (before (group x y v) is-group))
+        group-few = let f = few-told t asked in omega (arith, group-owed (before (group x y z') is-group))
 
         pub group-room : RowRoom m n e p x
         group-room = record { room = omega (arith, group-few, inv.room.items); event = inv.few_events; part = inv.small; delay = group-small.0 }
 
-        pub page-group : (m' : List ℕ) (r : ℕ) → Laid m (item_size * n) (item_bytes (group_item p (event_of o e) x y v o ∷ [])) m' r → r ≡ item_size * n + item_size
+        pub page-group : (m' : List ℕ) (r : ℕ) → Laid m (item_size * n) (item_bytes (group_item p (event_of o e) x y z' o ∷ [])) m' r → r ≡ item_size * n + item_size
             → FillingPage t d₀ m₀ d m' s.next s.stage e p (n + 1) (n + 1)
         page-group m' r laid q =
-            let z : open_in s.stage ≡ suc (open_in stage) = rw (behind (group x y v) is-group) (open-group (balanced (group x y v) is-group)) in
-            goes_on d m' e p (n + 1) (n + 1) (suc (open_in stage)) z (going-group m' r (before (group x y v) is-group) laid q) (item_room m' laid.size) inv.few_events group-few inv.small (omega arith) inv.durations_kept (laid.size ∙ inv.items_kept)
+            let z : open_in s.stage ≡ suc (open_in stage) = rw (behind (group x y z') is-group) (open-group (balanced (group x y z') is-group)) in
+            goes_on d m' e p (n + 1) (n + 1) (suc (open_in stage)) z (going-group m' r (before (group x y z') is-group) laid q) (item_room m' laid.size) inv.few_events group-few inv.small (omega arith) inv.durations_kept (laid.size ∙ inv.items_kept)
 
     module _ (k : s.found ≡ Close) where
       is-close : line_in t s.found ≡ close
@@ -329,7 +325,7 @@ module _ (t d₀ m₀ d m : List ℕ) (at : ℕ) (stage : Stage) (e p n o : ℕ)
           let z : open_in s.stage ≡ open_in stage - 1 = rw (behind close is-close) is_open.1 in
           goes_on d m' e p n r (open_in stage - 1) z g.0 (item_room m' put.laid.size) inv.few_events inv.few_items inv.small g.1 inv.durations_kept (put.laid.size ∙ inv.items_kept)
 
-pub ruleset paging = (page-start, page-asked, page-over, page-fault, page-heading, page-message, event-small, event-room, page-part, send-number, send-room, group-synchrony, group-error, group-room, close-some, close-room, turn-less, rules)
+pub ruleset paging = (page-start, page-asked, page-over, page-heading, page-message, event-small, event-room, page-part, send-number, send-room, group-synchrony, group-error, group-room, close-some, close-room, turn-less, rules)
 
 -- where the invariant holds again, each step by itself
 pub ruleset grouping = (page-group, rules)

@@ -8,7 +8,7 @@ ghost use Rattle.text.specs.Transcripts.{read_answer, room_left, file_of};
 
 use contents::limits::LONGEST_SCORE;
 use making::{fault, judge};
-use script::{Tally, tally_text};
+use script::tally_text;
 use text::TextError;
 
 mod listing;
@@ -24,9 +24,8 @@ pub fn read_text(text: &[u8], room: &mut [u8]) -> Result<usize, TextError>
     if room.len() < LONGEST_SCORE {
         return Err(TextError::NoRoom);
     }
-    let found = tally_text(text);
-    match found {
-        Tally::Counted { counts } => judge(text, counts, room),
-        Tally::Faulty { at } => fault(text, at),
+    match tally_text(text) {
+        Ok(counts) => judge(text, counts, room),
+        Err(at) => fault(text, at),
     }
 }

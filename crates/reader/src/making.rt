@@ -47,11 +47,8 @@ fn settle(file: &[u8], room: &mut [u8]) -> Result<usize, TextError>
     requires { length file.now ≤ length room.old }
     ensures { Settles file.now room.old room.new result }
 {
-    let settled = settle_file(file, room);
-    match settled {
-        Ok(()) => Ok(file.len()),
-        Err(fault) => Err(TextError::BadFile { fault }),
-    }
+    settle_file(file, room)?;
+    Ok(file.len())
 }
 
 // A text whose counts are right: its file is made elsewhere, and the room is touched only where it is right.
@@ -68,14 +65,9 @@ pub fn judge(text: &[u8], c: Counts, room: &mut [u8]) -> Result<usize, TextError
     requires { Sayable text.now c room.old }
     ensures { Answers text.now room.old room.new result }
 {
-    let counted = check_counts(c);
-    match counted {
-        Ok(()) => {
-            let mut file = [0; LONGEST_SCORE];
-            make(text, c, &mut file, room)
-        }
-        Err(fault) => Err(TextError::BadFile { fault }),
-    }
+    check_counts(c)?;
+    let mut file = [0; LONGEST_SCORE];
+    make(text, c, &mut file, room)
 }
 
 // A text with its first fault at this byte.

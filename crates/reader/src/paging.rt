@@ -91,15 +91,10 @@ pub fn fill_page(text: &[u8], start: usize, messages: usize, durations: &mut [u8
     let mut part = 0;
     let mut n = 0;
     let mut inner = 0;
-    loop {
-        let s = next_line(text, at, stage);
-        if s.over {
-            return;
-        }
-        let found = s.found;
+    while let Some(s) = next_line(text, at, stage) {
         at = s.next;
         stage = s.stage;
-        match found {
+        match s.found {
             Found::Heading => {}
             Found::Message { start: _, size: _ } => {}
             Found::Event { grains } => {
@@ -133,9 +128,6 @@ pub fn fill_page(text: &[u8], start: usize, messages: usize, durations: &mut [u8
             }
             Found::Close => {
                 inner = set_last(items, inner - 1, n - inner);
-            }
-            Found::Fault => {
-                return;
             }
         }
     }

@@ -5,36 +5,27 @@ use script::{Found, after, is_over, line};
 use text::Stage;
 use tokens::past_blanks;
 
-// Whether the text is over; else the next line, the byte behind it and what may stand there.
+// A line, the byte behind it and what may stand there.
 #[derive(Clone, Copy)]
 pub struct Turn {
-    pub over: bool,
     pub found: Found,
     pub next: usize,
     pub stage: Stage,
 }
 
-// The line from `at` on of a text that has no fault.
-pub fn next_line(text: &[u8], at: usize, stage: Stage) -> Turn
+// The line from `at` on of a text that has no fault; none where the text is over.
+pub fn next_line(text: &[u8], at: usize, stage: Stage) -> Option<Turn>
     requires { Turnable text.now at stage }
     ensures { Turns text.now at stage result }
 {
     let from = past_blanks(text, at);
     if is_over(text, from, stage) {
-        return Turn {
-            over: true,
-            found: Found::Close,
-            next: from,
-            stage,
-        };
+        return None;
     }
-    let s = line(text, from, stage);
-    let found = s.found;
-    let behind = after(found, stage);
-    Turn {
-        over: false,
-        found,
+    let s = line(text, from, stage).unwrap();
+    Some(Turn {
+        found: s.found,
         next: s.next,
-        stage: behind,
-    }
+        stage: after(s.found, stage),
+    })
 }

@@ -1,22 +1,14 @@
 -- The counts decide first.
 -- Assumes nothing.
+use Rattle.std.specs.Prelude.{◌≡◌, Err}
+use borrow.Author.Rules.{rules}
+use Rattle.text.specs.declared.TextError.TheVariants.{BadFile}
 use Rattle.reader.proofs.MakeSteps.{judges}
 use Rattle.reader.proofs.making.judge.Goals as goal
 
-pub check_counts-counted-requires : goal.check_counts-counted-requires
-check_counts-counted-requires c = search judges
-
-pub slice_bounds-make-end : goal.slice_bounds-make-end
-slice_bounds-make-end c = search judges
+pub returns-in_err-check_counts : goal.returns-in_err-check_counts
+returns-in_err-check_counts c =
+    let e : c.from_residual.result ≡ Err (BadFile c.in_err-check_counts.field-0.0) = search rules in search (judges, e, c.in_err-check_counts.was)
 
 pub make-requires : goal.make-requires
-make-requires c = search judges
-
-pub shape_of-room : goal.shape_of-room
-shape_of-room c = search judges
-
-pub returns-in-Ok : goal.returns-in-Ok
-returns-in-Ok c = search judges
-
-pub returns-in-Err : goal.returns-in-Err
-returns-in-Err c = search judges
+make-requires c = search (judges, c.in_ok-check_counts.was)

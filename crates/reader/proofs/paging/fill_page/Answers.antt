@@ -6,38 +6,17 @@ use Rattle.reader.proofs.paging.fill_page.Goals as goal
 pub loop-s-init : goal.loop-s-init
 loop-s-init c = search paging
 
-pub next_line-s-requires : goal.next_line-s-requires
-next_line-s-requires c = search paging
-
-pub shape_of-durations-then-s : goal.shape_of-durations-then-s
-shape_of-durations-then-s c = search paging
-
-pub shape_of-items-then-s : goal.shape_of-items-then-s
-shape_of-items-then-s c = search paging
-
-pub returns-then-s : goal.returns-then-s
-returns-then-s c = search paging
-
-pub enum_told-1 : goal.enum_told-1
-enum_told-1 c = search paging
-
 pub loop-s-smaller-in-Heading : goal.loop-s-smaller-in-Heading
 loop-s-smaller-in-Heading c = search paging
 
 pub loop-s-preserved-in-Heading : goal.loop-s-preserved-in-Heading
 loop-s-preserved-in-Heading c = search paging
 
-pub enum_told-in-Message : goal.enum_told-in-Message
-enum_told-in-Message c = search paging
-
 pub loop-s-smaller-in-Message : goal.loop-s-smaller-in-Message
 loop-s-smaller-in-Message c = search paging
 
 pub loop-s-preserved-in-Message : goal.loop-s-preserved-in-Message
 loop-s-preserved-in-Message c = search paging
-
-pub enum_known-found : goal.enum_known-found
-enum_known-found c = search paging
 
 pub overflow_mul-events : goal.overflow_mul-events
 overflow_mul-events c = search paging
@@ -53,19 +32,13 @@ loop-s-smaller-in-Event c = search paging
 
 pub loop-s-preserved-in-Event : goal.loop-s-preserved-in-Event
 loop-s-preserved-in-Event c =
-    page-event _ _ _ _ _ _ _ _ _ _ _ c.loop-s.invariant _ c.next_line-s.ensures (search rules) _ (search rules) (search rules) _ _ c.put32.ensures.0 c.put32.ensures.1
-
-pub enum_known-found-in-Part-1 : goal.enum_known-found-in-Part-1
-enum_known-found-in-Part-1 c = search paging
+    page-event _ _ _ _ _ _ _ _ _ _ _ c.loop-s.invariant _ c.next_line.ensures _ c.in-Some.is _ (search rules) (search rules) _ _ c.put32.ensures.0 c.put32.ensures.1
 
 pub loop-s-smaller-in-Part : goal.loop-s-smaller-in-Part
 loop-s-smaller-in-Part c = search paging
 
 pub loop-s-preserved-in-Part : goal.loop-s-preserved-in-Part
 loop-s-preserved-in-Part c = search paging
-
-pub enum_known-found-in-Send-1 : goal.enum_known-found-in-Send-1
-enum_known-found-in-Send-1 c = search paging
 
 pub put_send-requires : goal.put_send-requires
 put_send-requires c = search paging
@@ -78,10 +51,7 @@ loop-s-smaller-in-Send c = search paging
 
 pub loop-s-preserved-in-Send : goal.loop-s-preserved-in-Send
 loop-s-preserved-in-Send c =
-    page-send _ _ _ _ _ _ _ _ _ _ _ c.loop-s.invariant _ c.next_line-s.ensures (search rules) _ _ (search rules) (search rules) _ _ c.put_send.ensures.0 c.put_send.ensures.1
-
-pub enum_known-found-in-Group-1 : goal.enum_known-found-in-Group-1
-enum_known-found-in-Group-1 c = search paging
+    page-send _ _ _ _ _ _ _ _ _ _ _ c.loop-s.invariant _ c.next_line.ensures _ c.in-Some.is _ _ (search rules) (search rules) _ _ c.put_send.ensures.0 c.put_send.ensures.1
 
 pub put_group-requires : goal.put_group-requires
 put_group-requires c = search paging
@@ -94,9 +64,6 @@ loop-s-smaller-in-Group c = search paging
 
 pub loop-s-preserved-in-Group : goal.loop-s-preserved-in-Group
 loop-s-preserved-in-Group c = search grouping
-
-pub enum_told-in-Close : goal.enum_told-in-Close
-enum_told-in-Close c = search paging
 
 pub overflow_sub-inner : goal.overflow_sub-inner
 overflow_sub-inner c = search paging
@@ -113,14 +80,5 @@ loop-s-smaller c = search paging
 pub loop-s-preserved : goal.loop-s-preserved
 loop-s-preserved c = search bracing
 
-pub enum_told-in-Fault : goal.enum_told-in-Fault
-enum_told-in-Fault c = search paging
-
-pub shape_of-durations-in-Fault : goal.shape_of-durations-in-Fault
-shape_of-durations-in-Fault c = search paging
-
-pub shape_of-items-in-Fault : goal.shape_of-items-in-Fault
-shape_of-items-in-Fault c = search paging
-
-pub returns-in-Fault : goal.returns-in-Fault
-returns-in-Fault c = search paging
+pub returns : goal.returns
+returns c = search paging
