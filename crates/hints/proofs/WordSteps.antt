@@ -83,11 +83,10 @@ module _ (o t : List ℕ) (at : ℕ) (m : List ℕ) (i : ℕ) (inv : Lowers o t 
       let b : take word_room (drop at t) ≡ drop at t = take_all word_room (drop at t) (omega arith) in
       rw (b, ← a) inv.laid
 
-  pub lowers-done : word_room ≤ i → Laid o 0 (all_lowered (take word_room (drop at t))) m i
+  pub lowers-done : word_room ≤ i → Laid o 0 (all_lowered (take word_room (drop at t))) m word_room
   lowers-done q =
       let e : word_room ≡ i = omega (arith, inv.few) in
-      let g : take word_room (drop at t) ≡ take i (drop at t) = ap (λ (k : ℕ). take k (drop at t)) e in
-      rw g inv.laid
+      rw e inv.laid
 
 pub ruleset lowering = (lowers-start, lowers-step, lowers-short, lowers-done, rules)
 

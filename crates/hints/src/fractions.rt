@@ -11,20 +11,13 @@ fn is_fractional(text: &[u8], at: usize) -> bool
     requires { at ≤ length text.now }
     ensures { result ≡ is_fractional (drop at text.now) }
 {
-    let n = number(text, at, FIELD);
-    if !n.read {
+    let Ok(n) = number(text, at, FIELD) else {
+        return false;
+    };
+    if text.len() <= n.next || text[n.next] != SLASH {
         return false;
     }
-    let after = n.next;
-    if text.len() <= after {
-        return false;
-    }
-    let b = text[after];
-    if b != SLASH {
-        return false;
-    }
-    let d = number(text, after + 1, FIELD);
-    d.read
+    number(text, n.next + 1, FIELD).is_ok()
 }
 
 // Whether beats stand at `at`.
@@ -32,8 +25,7 @@ fn is_beats(text: &[u8], at: usize) -> bool
     requires { at ≤ length text.now }
     ensures { result ≡ is_got (beats (drop at text.now)) }
 {
-    let b = beats(text, at);
-    b.read
+    beats(text, at).is_ok()
 }
 
 // Whether a digit and a space stand before `at`, and beats that are a fraction behind them.
@@ -41,21 +33,10 @@ pub fn is_mixed(text: &[u8], at: usize) -> bool
     requires { at ≤ length text.now }
     ensures { result ≡ is_mixed text.now at }
 {
-    if at < 2 {
+    if at < 2 || text[at - 1] != SPACE || !is_digit(text[at - 2]) {
         return false;
     }
-    let before = text[at - 2];
-    if !is_digit(before) {
-        return false;
-    }
-    let between = text[at - 1];
-    if between != SPACE {
-        return false;
-    }
-    if !is_fractional(text, at) {
-        return false;
-    }
-    is_beats(text, at)
+    is_fractional(text, at) && is_beats(text, at)
 }
 
 // Whether a fraction stands at `at` that is no beats.
@@ -63,8 +44,5 @@ pub fn is_uneven(text: &[u8], at: usize) -> bool
     requires { at ≤ length text.now }
     ensures { result ≡ is_uneven (drop at text.now) }
 {
-    if !is_fractional(text, at) {
-        return false;
-    }
-    !is_beats(text, at)
+    is_fractional(text, at) && !is_beats(text, at)
 }

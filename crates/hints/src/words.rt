@@ -68,16 +68,13 @@ fn put_lowered(out: &mut [u8], text: &[u8], at: usize) -> usize
     requires { (at ≤ length text.now) × (word_room ≤ length out.old) }
     ensures { Laid out.old 0 (all_lowered (take word_room (drop at text.now))) out.new result }
 {
-    let mut i = 0;
-    while i < WORD_ROOM {
+    for i in 0..WORD_ROOM {
         if text.len() - at <= i {
             return i;
         }
-        let b = text[at + i];
-        out[i] = lowered(b);
-        i += 1;
+        out[i] = lowered(text[at + i]);
     }
-    i
+    WORD_ROOM
 }
 
 // Whether a word stands at `at` that has a capital: no word as it is, and one in small letters.

@@ -1,28 +1,12 @@
--- What the calls told decides.
--- Assumes nothing.
 use Rattle.hints.proofs.FractionSteps.{fractions}
+use Rattle.hints.proofs.fractions.is_fractional.Goals.{then-text-n-via-then-text-n, then-text-n-via-else-text-n+then-text-n-ne-SLASH}
 use Rattle.hints.proofs.fractions.is_fractional.Goals as goal
 
-pub number-n-requires : goal.number-n-requires
-number-n-requires c = search fractions
+pub returns-in_default : goal.returns-in_default
+returns-in_default c = search fractions
 
-pub returns-then-not-n : goal.returns-then-not-n
-returns-then-not-n c = search fractions
-
-pub returns-then-text-after : goal.returns-then-text-after
-returns-then-text-after c = search fractions
-
-pub bounds-text-after : goal.bounds-text-after
-bounds-text-after c = search fractions
-
-pub returns-then-b-ne-SLASH : goal.returns-then-b-ne-SLASH
-returns-then-b-ne-SLASH c = search fractions
-
-pub overflow_add-after : goal.overflow_add-after
-overflow_add-after c = search fractions
-
-pub number-d-requires : goal.number-d-requires
-number-d-requires c = search fractions
+pub returns-then-text-n : goal.returns-then-text-n
+returns-then-text-n c = elim c.then-text-n.branch [ then-text-n-via-then-text-n w ↦ search fractions | then-text-n-via-else-text-n+then-text-n-ne-SLASH w ↦ search fractions ]
 
 pub returns : goal.returns
 returns c = search fractions
