@@ -20,8 +20,6 @@ use Rattle.streams.specs.declared.ending.Ending.{Ending}
 use Rattle.text.specs.declared.TextError.{TextError}
 use Rattle.text.specs.declared.TextError.TheVariants.{NoRoom, BadText, BadFile}
 use Rattle.text.specs.Said.{said}
-use Rattle.script.specs.declared.Tally.{Tally}
-use Rattle.script.specs.declared.Tally.TheVariants.{Counted, Faulty}
 use Rattle.script.specs.Tallies.{tally_of}
 use Rattle.script.proofs.BalancedLaws.{fault-within}
 use Rattle.refusals.specs.Line.{refusal_line}
@@ -34,10 +32,10 @@ use Rattle.transcribing.specs.Told.{counts_told, counts_said, hint_told, faulty_
 
 -- ---- counts
 
-pub counts-case : (t u : Tally) (r : Counts) → t ≡ u → r ≡ counts_told u → r ≡ counts_told t
+pub counts-case : (t u : Result Counts ℕ) (r : Counts) → t ≡ u → r ≡ counts_told u → r ≡ counts_told t
 counts-case t u r e p = rw e p
 
-pub counts_of : (text : List ℕ) (t : Tally) (r : Counts) → t ≡ tally_of (said text) → r ≡ counts_told t → r ≡ counts_said (said text)
+pub counts_of : (text : List ℕ) (t : Result Counts ℕ) (r : Counts) → t ≡ tally_of (said text) → r ≡ counts_told t → r ≡ counts_said (said text)
 unfolding counts_said
 counts_of text t r e p = rw (← e) p
 
@@ -45,15 +43,15 @@ pub ruleset counting = (counts-case, counts_of, rules)
 
 -- ---- hints
 
-module _ (text : List ℕ) (t : Tally) where
-  pub fault-here : (at : ℕ) → t ≡ tally_of (said text) → t ≡ Faulty at → at ≤ length text
+module _ (text : List ℕ) (t : Result Counts ℕ) where
+  pub fault-here : (at : ℕ) → t ≡ tally_of (said text) → t ≡ Err at → at ≤ length text
   fault-here at e f = fault-within text at (sym f ∙ e)
 
-  pub hint-none : (c : Counts) → t ≡ Counted c → Unhinted ≡ hint_told text t
+  pub hint-none : (c : Counts) → t ≡ Ok c → Unhinted ≡ hint_told text t
   unfolding hint_told
   hint-none c e = rw e
 
-  pub hint-fault : (at : ℕ) (r : Hint) → t ≡ Faulty at → r ≡ hint_at text at → r ≡ hint_told text t
+  pub hint-fault : (at : ℕ) (r : Hint) → t ≡ Err at → r ≡ hint_at text at → r ≡ hint_told text t
   unfolding hint_told
   hint-fault at r e p = rw e p
 
@@ -68,7 +66,7 @@ lay-unfit o n name text r c x row p h e f g k l =
     let z : row.place ≡ (fault_row x).place = rw f in
     rw (← e, ← z, ← g, ← k) l
 
-pub lay-faulty : (o n name text : List ℕ) (r i c : ℕ) (t : Tally) (h : Hint) → t ≡ tally_of (said text) → h ≡ hint_told text t → Laid o 0 (misread_line name i c h) n r → Laid o 0 (faulty_line name text i c) n r
+pub lay-faulty : (o n name text : List ℕ) (r i c : ℕ) (t : Result Counts ℕ) (h : Hint) → t ≡ tally_of (said text) → h ≡ hint_told text t → Laid o 0 (misread_line name i c h) n r → Laid o 0 (faulty_line name text i c) n r
 unfolding faulty_line
 lay-faulty o n name text r i c t h e f l = rw (← e, ← f) l
 

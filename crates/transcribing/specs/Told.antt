@@ -9,8 +9,6 @@ use Rattle.streams.specs.declared.ending.Ending.TheVariants.{Done, Refused}
 use Rattle.text.specs.declared.TextError.{TextError}
 use Rattle.text.specs.declared.TextError.TheVariants.{NoRoom, BadText, BadFile}
 use Rattle.text.specs.Said.{Reading, said}
-use Rattle.script.specs.declared.Tally.{Tally}
-use Rattle.script.specs.declared.Tally.TheVariants.{Counted, Faulty}
 use Rattle.script.specs.Tallies.{tally_of}
 use Rattle.refusals.specs.Line.{refusal_line}
 use Rattle.origins.specs.Origins.{place_in_text}
@@ -20,17 +18,17 @@ use Rattle.hints.specs.Hints.{hint_at, fault_hint}
 use Rattle.refusals.specs.Texts.{misread_line, room_line, misfit_line}
 
 -- How much a text has of each kind, by which the entry at fault is named; nothing where it has a fault itself.
-unfoldable pub counts_told : Tally → Counts
-counts_told (Counted c) = c
-counts_told (Faulty at) = record { events = 0; items = 0; messages = 0; text = 0 }
+unfoldable pub counts_told : Result Counts ℕ → Counts
+counts_told (Ok c) = c
+counts_told (Err at) = record { events = 0; items = 0; messages = 0; text = 0 }
 
 unfoldable pub counts_said : Reading → Counts
 counts_said r = counts_told (tally_of r)
 
 -- The hint of its own fault.
-unfoldable pub hint_told : (text : List ℕ) → Tally → Hint
-hint_told t (Counted c) = Unhinted
-hint_told t (Faulty at) = hint_at t at
+unfoldable pub hint_told : (text : List ℕ) → Result Counts ℕ → Hint
+hint_told t (Ok c) = Unhinted
+hint_told t (Err at) = hint_at t at
 
 -- The text has a fault of its own.
 unfoldable pub faulty_line : (name text : List ℕ) → (line column : ℕ) → List ℕ

@@ -11,7 +11,7 @@ use contents::{Counts, Fault};
 use hints::{Hint, fault_hint, hint_at};
 use origins::place_in_text;
 use refusals::{misfit_line, misread_line, refusal_line, room_line};
-use script::{Tally, tally_text};
+use script::tally_text;
 use session::{Refusal, refusal_row};
 use streams::Ending;
 use text::TextError;
@@ -20,12 +20,12 @@ pub use unfolds::{unfold_ending, unfold_line};
 mod unfolds;
 
 // The counts of what was tallied: none where there is a fault.
-fn counts_told(t: Tally) -> Counts
+fn counts_told(t: Result<Counts, usize>) -> Counts
     ensures { result ≡ counts_told t }
 {
     match t {
-        Tally::Counted { counts } => counts,
-        Tally::Faulty { at: _ } => Counts {
+        Ok(counts) => counts,
+        Err(_) => Counts {
             events: 0,
             items: 0,
             messages: 0,
@@ -41,13 +41,13 @@ fn counts_said(text: &[u8]) -> Counts
 }
 
 // The hint of a text's own fault.
-fn hint_told(text: &[u8], t: Tally) -> Hint
+fn hint_told(text: &[u8], t: Result<Counts, usize>) -> Hint
     requires { t ≡ tally_of (said text.now) }
     ensures { result ≡ hint_told text.now t }
 {
     match t {
-        Tally::Counted { counts: _ } => Hint::Unhinted,
-        Tally::Faulty { at } => hint_at(text, at),
+        Ok(_) => Hint::Unhinted,
+        Err(at) => hint_at(text, at),
     }
 }
 
