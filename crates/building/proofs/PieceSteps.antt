@@ -6,6 +6,7 @@ use Prim.Native.Nat.{ℕ, suc, ◌+◌, ◌-◌, ◌*◌, ◌<◌, ◌≤◌, mi
 use native.Mathlib.Omega.{arith}
 use lib.ListN.{length, get_or, drop, length-take, length-drop}
 use borrow.Author.Rules.{rules}
+use Rattle.std.specs.Prelude.{Option, Some, None}
 use Rattle.ascii.specs.Laying.{Laid}
 use Rattle.ascii.proofs.LayLaws.{laid-join, laid-nothing}
 use Rattle.page.specs.declared.Item.{Item}
@@ -16,7 +17,6 @@ use Rattle.score.specs.Encode.{item_bytes}
 use Rattle.score.proofs.EncodingBytes.{part-add, part_none}
 use Rattle.shapes.specs.declared.Shape.{Shape}
 use Rattle.shapes.specs.declared.Sizes.{Sizes}
-use Rattle.shapes.specs.declared.Sizes.TheVariants.{Within, Over}
 use Rattle.shapes.specs.Limits.{row_words}
 use Rattle.shapes.specs.Shapes.{Tree, within_of, items, actions, depth}
 use Rattle.shapes.specs.Sizes.{told_from}
@@ -39,14 +39,14 @@ times-read s t r e p = p ∙ ap (λ (x : Shape). x.times) e
 pub body-read : (s t : Shape) (w r left : ℕ) → s ≡ t → w ≡ within_of s → r ≡ min w left → r ≡ min (within_of t) left
 body-read s t w r left e p q = q ∙ ap (λ (x : ℕ). min x left) (p ∙ ap within_of e)
 
-module _ (w : Sizes) (u : Tree) (found : w ≡ told_from 1 0 0 0 u) where
-  pub size-found : (n a : ℕ) → w ≡ Within n a → n ≡ items u
-  size-found n a e = (within-exact u n a (sym (sizes-all w u found) ∙ e)).0
+module _ (w : Option Sizes) (u : Tree) (found : w ≡ told_from 1 0 0 0 u) where
+  pub size-found : (s : Sizes) → w ≡ Some s → s.items ≡ items u
+  size-found s e = (within-exact u s.items s.actions (sym (sizes-all w u found) ∙ e)).0
 
-  pub size-found-few : (n a : ℕ) → w ≡ Within n a → n ≤ most_items
-  size-found-few n a e = let x = within-exact u n a (sym (sizes-all w u found) ∙ e) in omega arith
+  pub size-found-few : (s : Sizes) → w ≡ Some s → s.items ≤ most_items
+  size-found-few s e = let x = within-exact u s.items s.actions (sym (sizes-all w u found) ∙ e) in omega arith
 
-  pub size-never : items u ≤ most_items → actions u ≤ most_actions → depth u ≤ deepest → w ≡ Over → 0 ≡ items u
+  pub size-never : items u ≤ most_items → actions u ≤ most_actions → depth u ≤ deepest → w ≡ None → 0 ≡ items u
   size-never p q r e = absurd (over-exact u (sym (sizes-all w u found) ∙ e) p q r)
 
 pub ruleset tables = (first_read, times-read, body-read, size-found, size-found-few, size-never, rules)

@@ -31,12 +31,6 @@ fn put_send(out: &mut [u8], at: usize, i: Item, delay: usize, number: usize) -> 
     put_item(out, at, g)
 }
 
-fn wide(x: u16) -> usize
-    ensures { (result ≡ x) × (result < 65536) }
-{
-    x as usize
-}
-
 // A curve's actions, one for each of its `times` message numbers from `first` on.
 pub fn build_values(
     i: Item,
@@ -51,13 +45,12 @@ pub fn build_values(
     ensures { Laid out.old to (page_bytes (sends i step 0 (part numbers.now first times))) out.new result }
 {
     let mut at = to;
-    let mut p = 0;
     let mut delay = 0;
-    while p < times {
-        let n = wide(numbers[first + p]);
+    // By place, since a curve without values may start past the last number, where there is no slice.
+    for p in 0..times {
+        let n = usize::from(numbers[first + p]);
         at = put_send(out, at, i, delay, n);
         delay = step;
-        p += 1;
     }
     at
 }

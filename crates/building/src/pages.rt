@@ -33,6 +33,7 @@ pub fn build_items(
     let mut i = k;
     let mut left = count;
     let mut at = to;
+    // No range: an item passes all that lies within it.
     while 0 < left {
         let body = body_at(table, i, left - 1);
         at = build_item(file, start, table, numbers, i, body, d, out, at);
@@ -128,13 +129,11 @@ fn build_passes(
     let period = i.each;
     let times = i.times;
     let mut at = to;
-    let mut p = 0;
     let mut delay = 0;
-    while p < times {
+    for _ in 0..times {
         let next = put_pass(out, at, item, delay, n);
         at = build_items(file, start, table, numbers, k, body, d + 1, out, next);
         delay = period;
-        p += 1;
     }
     at
 }

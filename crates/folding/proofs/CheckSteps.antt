@@ -9,6 +9,7 @@ use lib.Dec.{ltb}
 use lib.ListN.{length}
 use borrow.Author.Rules.{rules}
 use borrow.Author.Tests.{ltb-true, ltb-false}
+use Rattle.std.specs.Prelude.{Ok, Err}
 use Rattle.base.specs.Tests.{every}
 use Rattle.base.proofs.TestLaws.{every-pass, every-stop, told-true, told-false}
 use Rattle.extended.specs.declared.Extent.{Extent}
@@ -16,13 +17,12 @@ use Rattle.extended.specs.Layout.{extended_contents, extent_of, items_start, fol
 use Rattle.extended.specs.Right.{own_right, item_of, ends_within, extended_right}
 use Rattle.extended.specs.Inner.{SmallExtent}
 use Rattle.extended.proofs.RightLaws.{contents-long, contents-whole}
-use Rattle.folding.specs.declared.Folding.TheVariants.{Right, Wrong}
 use Rattle.folding.specs.Answers.{folding_of}
 use Rattle.folding.specs.Inner.{Tabled, points_left, FirstWrong, FirstOverrun}
 use Rattle.folding.proofs.AnswerLaws.{answers-wrong, answers-right}
 use Rattle.folding.proofs.RightLaws.{extended-bad, extended-stop, extended-left, extended-used}
 
-pub contents-wrong : (f : List ℕ) (b : Bool) → b ≡ contents_right f → not b ≡ true → Wrong 0 ≡ folding_of (extended_right f)
+pub contents-wrong : (f : List ℕ) (b : Bool) → b ≡ contents_right f → not b ≡ true → Err 0 ≡ folding_of (extended_right f)
 contents-wrong f b e h = answers-wrong _ 0 (extended-bad f (told-false b _ e h))
 
 pub contents-known : (f : List ℕ) (b : Bool) → b ≡ contents_right f → not b ≡ false → extended_contents ≤ length f
@@ -48,7 +48,7 @@ module _ (f : List ℕ) (c : Extent) (b : Bool) (k r left : ℕ) (told : b ≡ c
         let same : r ≡ k = omega arith in
         sym (every-stop _ _ (subst (λ (x : ℕ). own_right (item_of f x) (points_left f x) ≡ false) same (wrong.there (omega arith))))
 
-  pub item-wrong : (s : ℕ) → s ≡ items_start c → k < c.items → Wrong (s + folded_size * k) ≡ folding_of (extended_right f)
+  pub item-wrong : (s : ℕ) → s ≡ items_start c → k < c.items → Err (s + folded_size * k) ≡ folding_of (extended_right f)
   item-wrong s e l =
       let start : s ≡ items_start (extent_of f) = rw counts at e in
       let n = items-same in
@@ -68,10 +68,10 @@ module _ (f : List ℕ) (c : Extent) (b : Bool) (k r left : ℕ) (told : b ≡ c
       let same : r ≡ k = omega arith in
       subst (λ (x : ℕ). length (points_left f x) ≡ left) same wrong.points
 
-  pub points-wrong : c.items ≤ k → (left ≡ 0 → ⊥) → Wrong 0 ≡ folding_of (extended_right f)
+  pub points-wrong : c.items ≤ k → (left ≡ 0 → ⊥) → Err 0 ≡ folding_of (extended_right f)
   points-wrong l n = answers-wrong _ 0 (extended-left f (told-true b _ told test) k own-before over.first (last-reached l) (λ e. n (sym (left-same l) ∙ e)))
 
-  pub all_right : c.items ≤ k → left ≡ 0 → Right ≡ folding_of (extended_right f)
+  pub all_right : c.items ≤ k → left ≡ 0 → Ok tt ≡ folding_of (extended_right f)
   all_right l z = answers-right _ (extended-used f (told-true b _ told test) k own-before over.first (last-reached l) (left-same l ∙ z))
 
 pub ruleset checking = (contents-wrong, contents-known, tabled, item-wrong, points-wrong, all_right, rules)

@@ -104,8 +104,11 @@ module _ (f : List ℕ) (c : Extent) (at number p left : ℕ) (i : Folded) (b : 
           let same : number ≡ k = omega arith in
           subst (λ (y : ℕ). own_right (item_of f y) (points_left f y) ≡ true) same right
 
-pub reaching-all : (f : List ℕ) (c : Extent) (at number p left : ℕ) → Reaching f c at number p left → c.items ≤ number → FirstWrong f c number left
+pub reaching-all : (f : List ℕ) (c : Extent) (at number p left : ℕ) → Reaching f c at number p left → c.items ≤ number → FirstWrong f c c.items left
 reaching-all f c at number p left s h =
-    record { most = s.most; points = ap length s.points ∙ points-length f p left; there = λ l. absurd (omega arith); first = s.first }
+    let m : number ≤ c.items = s.most in
+    let same : number ≡ c.items = omega arith in
+    subst (λ (n : ℕ). FirstWrong f c n left) same
+    (record { most = m; points = ap length s.points ∙ points-length f p left; there = λ l. absurd (omega arith); first = s.first })
 
 pub ruleset items-reached = (takes_told, reaching-start, reaching-wrong, reaching-more, reaching-all, rules)

@@ -38,12 +38,17 @@ module _ (f : List ℕ) (step at count p left span : ℕ) (so_far : spans_right 
       every-pass _ false _ (le-leb step (u32_at f (p + 4)) (omega arith)) (every-stop _ _ (ne_eqb (u32_at f (p + 4) % step) 0 (rw e at n)))
       ∙ (sym (spans-two f step p left h) ∙ so_far)
 
-  pub spans-more : 1 < left → span ≡ u32_at f (p + 4) → step ≤ span → span % step ≡ 0 → spans_right step (points_from f (p + point_size) (left - 1)) ≡ spans_right step (points_from f at count)
-  spans-more h e l n =
-      every-pass _ _ _ (le-leb step (u32_at f (p + 4)) (omega arith)) (every-pass _ _ _ (eq-eqb (u32_at f (p + 4) % step) 0 (rw e at n)) (every-last _ _ refl))
-      ∙ (sym (spans-two f step p left h) ∙ so_far)
+  pub spans-more : (q rest : ℕ) → q ≡ p + point_size → rest ≡ left - 1 → 1 < left → span ≡ u32_at f (p + 4) → step ≤ span → span % step ≡ 0
+      → spans_right step (points_from f q rest) ≡ spans_right step (points_from f at count)
+  spans-more q rest a b h e l n =
+      rw (a, b)
+      (every-pass _ _ _ (le-leb step (u32_at f (p + 4)) (omega arith)) (every-pass _ _ _ (eq-eqb (u32_at f (p + 4) % step) 0 (rw e at n)) (every-last _ _ refl))
+      ∙ (sym (spans-two f step p left h) ∙ so_far))
 
-  pub spans-last : 1 ≤ left → left ≤ 1 → span ≡ u32_at f (p + 4) → eqb span 0 ≡ spans_right step (points_from f at count)
-  spans-last h l e = rw e (sym (spans-one f step p left h l) ∙ so_far)
+  pub spans-last : (q : ℕ) → q ≡ p → 1 ≤ left → left ≤ 1 → span ≡ u32_at f (q + 4) → eqb span 0 ≡ spans_right step (points_from f at count)
+  spans-last q a h l e = rw (e, a) (sym (spans-one f step p left h l) ∙ so_far)
 
-pub ruleset spans = (spans-short, spans-part, spans-more, spans-last, rules)
+pub spans-start : (f : List ℕ) (step at count q all : ℕ) → q ≡ at → all ≡ count → spans_right step (points_from f q all) ≡ spans_right step (points_from f at count)
+spans-start f step at count q all e a = rw (e, a)
+
+pub ruleset spans = (spans-start, spans-short, spans-part, spans-more, spans-last, rules)

@@ -17,32 +17,22 @@ mod offsets;
 mod own;
 mod spans;
 
-// What is found of an extended score.
-#[derive(Clone, Copy)]
-pub enum Folding {
-    // It can be unfolded.
-    Right,
-    // The contents, or the item at this byte, can't be.
-    Wrong { place: usize },
-}
-
-// The first fault from front to back: an item's own, or that it ends past what holds it; last of all, points left over.
-pub fn check_extended(file: &[u8]) -> Folding
+// Whether it can be unfolded, or the place of what can't: 0 for the contents, else the item's first byte. The first fault from front to back: an item's own, or
+// that it ends past what holds it; last of all, points left over.
+pub fn check_extended(file: &[u8]) -> Result<(), usize>
     ensures { result ≡ folding_of (extended_right file.now) }
 {
     if !contents_right(file) {
-        return Folding::Wrong { place: 0 };
+        return Err(0);
     }
     let c = extent_of(file);
     let w = first_wrong(file, c);
     let k = first_overrun(file, c, w.number);
     if k < c.items {
-        return Folding::Wrong {
-            place: items_start(c) + FOLDED_SIZE * k,
-        };
+        return Err(items_start(c) + FOLDED_SIZE * k);
     }
     if w.left != 0 {
-        return Folding::Wrong { place: 0 };
+        return Err(0);
     }
-    Folding::Right
+    Ok(())
 }

@@ -35,6 +35,7 @@ fn hop(file: &[u8], c: Extent, from: usize, stop: usize, limit: usize) -> usize
     ensures { Hopped file.now from stop limit result }
 {
     let mut k = from;
+    // No range: the next item is where this one ends.
     while k < stop {
         if limit <= k {
             return limit;
@@ -55,6 +56,7 @@ pub fn first_overrun(file: &[u8], c: Extent, most: usize) -> usize
 {
     let mut limit = hop(file, c, 0, c.items, most);
     let mut i = 0;
+    // No range: its end comes nearer with each overrun found.
     while i < limit {
         let stop = end_at(file, c, i);
         limit = hop(file, c, i + 1, stop, limit);

@@ -99,10 +99,9 @@ pub fn first_wrong(file: &[u8], c: Extent) -> Reached
     ensures { FirstWrong file.now c result.number result.left }
 {
     let mut at = items_start(c);
-    let mut number = 0;
     let mut p = points_start(c);
     let mut left = c.points;
-    while number < c.items {
+    for number in 0..c.items {
         let i = folded_at(file, at);
         if !own_right(file, i, p, left) {
             return Reached { number, left };
@@ -111,7 +110,9 @@ pub fn first_wrong(file: &[u8], c: Extent) -> Reached
         p += POINT_SIZE * taken;
         left -= taken;
         at += FOLDED_SIZE;
-        number += 1;
     }
-    Reached { number, left }
+    Reached {
+        number: c.items,
+        left,
+    }
 }

@@ -11,18 +11,14 @@ pub fn spans_right(file: &[u8], step: usize, at: usize, count: usize) -> bool
     requires { (at + point_size * count ≤ length file.now) × ((1 ≤ step) × (1 ≤ count)) }
     ensures { result ≡ spans_right step (points_from file.now at count) }
 {
-    let mut p = at;
-    let mut left = count;
-    while 1 < left {
-        let span = read32(file, p + 4);
+    for k in 0..count - 1 {
+        let span = read32(file, at + POINT_SIZE * k + 4);
         if span < step {
             return false;
         }
         if span % step != 0 {
             return false;
         }
-        p += POINT_SIZE;
-        left -= 1;
     }
-    read32(file, p + 4) == 0
+    read32(file, at + POINT_SIZE * (count - 1) + 4) == 0
 }

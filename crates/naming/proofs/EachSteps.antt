@@ -11,6 +11,7 @@ use lib.IntN.{ℤ}
 use lib.ListN.{length, take, drop, get_or, set, length-set, length-take, drop_of_length-le}
 use lib.Seq.{length-take-le, get_or-take, take-suc-set}
 use borrow.Author.Rules.{rules}
+use Rattle.std.specs.Prelude.{Option, Some, None}
 use Rattle.base.specs.Tests.{pick}
 use Rattle.ascii.proofs.WordSteps.{drop-next}
 use Rattle.contents.specs.Limits.{message_size, most_messages, most_text}
@@ -19,10 +20,8 @@ use Rattle.values.specs.Inner.{value_of}
 use Rattle.extended.specs.declared.Extent.{Extent}
 use Rattle.unfolding.specs.Messages.{Messages, entries_bytes, number_of, with_value, with_values, numbers_of}
 use Rattle.unfolding.proofs.MessageLaws.{entries-length}
-use Rattle.naming.specs.declared.Naming.{Naming}
-use Rattle.naming.specs.declared.Naming.TheVariants.{Named, Over}
+use Rattle.naming.specs.declared.Named.{Named}
 use Rattle.naming.specs.declared.places.Place.{Place}
-use Rattle.naming.specs.declared.places.Place.TheVariants.{At, Full}
 use Rattle.naming.specs.Named.{fits, naming_of, Namable, Names}
 use Rattle.naming.specs.Inner.{messages_in, Standing, Keyed, Placed, placed, placed_none, EachAsked}
 use Rattle.naming.proofs.EntryLaws.{list_length}
@@ -34,7 +33,7 @@ use Rattle.naming.proofs.PlaceSteps.{text_count}
 no-fit : (b : Bool) → b ≡ false → b ≡ true → ⊥
 no-fit b p q = let z : ◌≡◌ {A = ℕ} 0 1 = cc in omega arith
 
-names-over : (m : Messages) (vs : List ℤ) (count : ℕ) (e l ns : List ℕ) → fits (with_values m vs) ≡ false → Names m vs count e l ns Over
+names-over : (m : Messages) (vs : List ℤ) (count : ℕ) (e l ns : List ℕ) → fits (with_values m vs) ≡ false → Names m vs count e l ns None
 unfolding naming_of pick
 names-over m vs count e l ns p =
     record {
@@ -49,7 +48,7 @@ module _ (e l : List ℕ) (n text : ℕ) (st : Standing e l n text) where
   unfolding messages_in
   in-text = sym (text_count e l n text st)
 
-  in-answer : Named n text ≡ naming_of (messages_in e l n text)
+  in-answer : Some (record { messages = n; text = text }) ≡ naming_of (messages_in e l n text)
   unfolding naming_of pick
   in-answer =
       let a : length (messages_in e l n text).entries ≤ most_messages = rw (list_length e l n text) st.few in
@@ -64,7 +63,7 @@ module _ (e l : List ℕ) (n text : ℕ) (st : Standing e l n text) where
   unfolding messages_in
   in-labels = rw (← text_count e l n text st)
 
-  names-all : (m : Messages) (vs : List ℤ) (count : ℕ) (ns : List ℕ) → messages_in e l n text ≡ with_values m vs → take count ns ≡ numbers_of m vs → Names m vs count e l ns (Named n text)
+  names-all : (m : Messages) (vs : List ℤ) (count : ℕ) (ns : List ℕ) → messages_in e l n text ≡ with_values m vs → take count ns ≡ numbers_of m vs → Names m vs count e l ns (Some (record { messages = n; text = text }))
   names-all m vs count ns q k =
       record {
         answer = rw q at in-answer;
@@ -112,7 +111,7 @@ left values count i p q =
     rw (drop-next (take count values) i w, get_or-take count values i 0 q)
 
 module _ (values : List ℕ) (count : ℕ) (m : Messages) (inside : Bool) (e₀ l₀ keys₀ ns₀ e l keys ns : List ℕ) (n text i : ℕ) (inv : Going values count m inside e₀ l₀ keys₀ ns₀ e l keys ns n text i) where
-  pub each-done : count ≤ i → Names m (map value_of (take count values)) count e l ns (Named n text)
+  pub each-done : count ≤ i → Names m (map value_of (take count values)) count e l ns (Some (record { messages = n; text = text }))
   unfolding with_values numbers_of
   each-done p =
       let w = inv.within in
@@ -132,33 +131,34 @@ module _ (values : List ℕ) (count : ℕ) (m : Messages) (inside : Bool) (e₀ 
     unfolding numbers_of
     owed-numbers = rw (left values count i asked.count_there more) at inv.numbers
 
-    pub each_over : (place : Place) (e'' l'' ns'' : List ℕ) → Placed (messages_in e l n text) (value_of (get_or values i 0)) e' l' inside keys' place → place ≡ Full
-        → Names m (map value_of (take count values)) count e'' l'' ns'' Over
-    each_over place e'' l'' ns'' told p = names-over m _ count e'' l'' ns'' (rw owed-list at (stays-over _ (map value_of (drop (i + 1) (take count values))) (none place told p))) where
-      none : (x : Place) → Placed (messages_in e l n text) (value_of (get_or values i 0)) e' l' inside keys' x → x ≡ Full → fits (with_value (messages_in e l n text) (value_of (get_or values i 0))) ≡ false
-      none Full (placed_none f) q = f
-      none (At a b c) (placed f g h j k) q = let z : ◌≡◌ {A = ℕ} 0 1 = cc in absurd (omega arith)
+    pub each_over : (place : Option Place) (e'' l'' ns'' : List ℕ) (r : Option Named) → Placed (messages_in e l n text) (value_of (get_or values i 0)) e' l' inside keys' place → place ≡ None → r ≡ None
+        → Names m (map value_of (take count values)) count e'' l'' ns'' r
+    each_over place e'' l'' ns'' r told p s = rw s (names-over m _ count e'' l'' ns'' (rw owed-list at (stays-over _ (map value_of (drop (i + 1) (take count values))) (none place told p)))) where
+      none : (x : Option Place) → Placed (messages_in e l n text) (value_of (get_or values i 0)) e' l' inside keys' x → x ≡ None → fits (with_value (messages_in e l n text) (value_of (get_or values i 0))) ≡ false
+      none None (placed_none f) q = f
+      none (Some a) (placed f g h j k) q = let z : ◌≡◌ {A = ℕ} 0 1 = cc in absurd (omega arith)
 
-    module _ (place : Place) (told : Placed (messages_in e l n text) (value_of (get_or values i 0)) e' l' inside keys' place) (number n' text' : ℕ) (p : place ≡ At number n' text') where
-      at_place : Placed (messages_in e l n text) (value_of (get_or values i 0)) e' l' inside keys' (At number n' text')
+    module _ (place : Option Place) (told : Placed (messages_in e l n text) (value_of (get_or values i 0)) e' l' inside keys' place) (there : Place) (p : place ≡ Some there) where
+      at_place : Placed (messages_in e l n text) (value_of (get_or values i 0)) e' l' inside keys' (Some there)
       at_place = rw p at told
 
-      pub each-narrow : number < 65536
+      pub each-narrow : there.number < 65536
       each-narrow = go at_place where
-        go : {a b c : ℕ} → Placed (messages_in e l n text) (value_of (get_or values i 0)) e' l' inside keys' (At a b c) → a < 65536
+        go : {a : Place} → Placed (messages_in e l n text) (value_of (get_or values i 0)) e' l' inside keys' (Some a) → a.number < 65536
         go (placed f g h j k) = omega arith
 
-      pub each_step : (w : ℕ) → w ≡ number → length e' ≡ length e → length l' ≡ length l → length keys' ≡ length keys
-          → Going values count m inside e₀ l₀ keys₀ ns₀ e' l' keys' (set ns i w) n' text' (i + 1)
-      each_step w q ke kl kk = go at_place where
-        go : {b c : ℕ} → Placed (messages_in e l n text) (value_of (get_or values i 0)) e' l' inside keys' (At number b c) → Going values count m inside e₀ l₀ keys₀ ns₀ e' l' keys' (set ns i w) b c (i + 1)
-        go (placed f g h j k) =
+      pub each_step : (w : ℕ) → w ≡ there.number → length e' ≡ length e → length l' ≡ length l → length keys' ≡ length keys
+          → Going values count m inside e₀ l₀ keys₀ ns₀ e' l' keys' (set ns i w) there.messages there.text (i + 1)
+      each_step w q ke kl kk = go at_place q where
+        go : {a : Place} → Placed (messages_in e l n text) (value_of (get_or values i 0)) e' l' inside keys' (Some a) → w ≡ a.number
+            → Going values count m inside e₀ l₀ keys₀ ns₀ e' l' keys' (set ns i w) a.messages a.text (i + 1)
+        go (placed f g h j k) s =
             let room : i < length ns = let a = asked.numbers_room in let b = inv.numbers_kept in omega arith in
             let t : take (i + 1) (set ns i w) ≡ take i ns ++ (w ∷ []) = rw add-one (take-suc-set ns i w room) in
             record {
               within = omega arith;
               list = rw h owed-list;
-              numbers = rw (t, h, q, f) (append_assoc (take i ns) _ _ ∙ owed-numbers);
+              numbers = rw (t, h, s, f) (append_assoc (take i ns) _ _ ∙ owed-numbers);
               standing = j;
               keyed = k;
               entries_kept = ke ∙ inv.entries_kept;
@@ -177,7 +177,7 @@ all_asked f c values count e l ns asked =
     let b = asked.numbers_room in
     record { count_there = asked.count_there; small = asked.small; numbers_room = omega arith }
 
-pub all_named : (e l : List ℕ) (n text : ℕ) (m : Messages) (vs : List ℤ) (count : ℕ) (e' l' ns : List ℕ) (r : Naming) → messages_in e l n text ≡ m → Names (messages_in e l n text) vs count e' l' ns r
+pub all_named : (e l : List ℕ) (n text : ℕ) (m : Messages) (vs : List ℤ) (count : ℕ) (e' l' ns : List ℕ) (r : Option Named) → messages_in e l n text ≡ m → Names (messages_in e l n text) vs count e' l' ns r
     → Names m vs count e' l' ns r
 all_named e l n text m vs count e' l' ns r q names = rw q at names
 

@@ -11,6 +11,7 @@ use lib.ListN.{length, take, length-append, length-set}
 use lib.Seq.{length-take-le, take-set-le, take-suc-set}
 use borrow.Author.Tests.{ltb-true, ltb-false}
 use borrow.Author.Rules.{rules}
+use Rattle.std.specs.Prelude.{Option, Some, None}
 use Rattle.base.specs.Tests.{between}
 use Rattle.base.proofs.TestLaws.{every-head, every_rest, between-low, between-high}
 use Rattle.ascii.specs.Words.{zero_digit, nine_digit}
@@ -27,7 +28,6 @@ use Rattle.filing.specs.Pieces.{entry_of}
 use Rattle.unfolding.specs.Messages.{Messages, entries_from, number_of, joined, with_value}
 use Rattle.unfolding.proofs.MessageLaws.{entries-length}
 use Rattle.naming.specs.declared.places.Place.{Place}
-use Rattle.naming.specs.declared.places.Place.TheVariants.{At, Full}
 use Rattle.naming.specs.Inner.{symbol, all_symbols, key_of, keys_of, messages_in, all_within, Standing, Keyed, Searchable, Finds, Joins, joins, joins_none, Placed, placed, placed_none}
 use Rattle.naming.proofs.EntryLaws.{list_length, entries-joined, bytes-joined}
 use Rattle.naming.proofs.KeyLaws.{symbol-minus, symbol-digit, symbols-more, keys-behind}
@@ -81,10 +81,10 @@ module _ (e l : List ℕ) (n text : ℕ) (st : Standing e l n text) (name : List
   unfolding joined messages_in
   joined-long = length-append (take text l) name ∙ rw text-length
 
-  pub join-many : most_messages ≤ n → Joins (messages_in e l n text) name e l n Full
+  pub join-many : most_messages ≤ n → Joins (messages_in e l n text) name e l n None
   join-many p = joins_none (many (joined (messages_in e l n text) name) (omega (arith, joined-many)))
 
-  pub join-long : most_text < text + length name → Joins (messages_in e l n text) name e l n Full
+  pub join-long : most_text < text + length name → Joins (messages_in e l n text) name e l n None
   join-long p = joins_none (long (joined (messages_in e l n text) name) (omega (arith, joined-long)))
 
   module _ (short : length name ≤ most_digits) (e' l' : List ℕ) (q r : ℕ) (few : n < most_messages) (room : text + length name ≤ most_text) (le : Laid e (message_size * n) (entry_of text (length name)) e' q)
@@ -99,9 +99,9 @@ module _ (e l : List ℕ) (n text : ℕ) (st : Standing e l n text) (name : List
         let b : take (text + length name) l' ≡ take text l ++ name = rw ll.stop at ll.front in
         rw (a, b, text-length)
 
-    pub join-done : Joins (messages_in e l n text) name e' l' n (At n (n + 1) (text + length name))
+    pub join-done : Joins (messages_in e l n text) name e' l' n (Some (record { number = n; messages = n + 1; text = text + length name }))
     join-done =
-        joins joined-there
+        joins refl refl joined-there
         (record {
           few = omega arith;
           short = room;
@@ -141,7 +141,7 @@ module _ (v : ℕ) (small : v < whole_range) (e l : List ℕ) (n text : ℕ) (st
     keys-room : length keys' ≡ length keys
     keys-room = ap length finds.put ∙ length-set keys n (key_of (take size d))
 
-    pub place_found : number < n → Placed (messages_in e l n text) (value_of v) e l inside keys' (At number n text)
+    pub place_found : number < n → Placed (messages_in e l n text) (value_of v) e l inside keys' (Some (record { number = number; messages = n; text = text }))
     place_found p =
         let f = found_number in
         let g = list_length e l n text in
@@ -192,13 +192,13 @@ module _ (v : ℕ) (small : v < whole_range) (e l : List ℕ) (n text : ℕ) (st
               keys_right = joined-keys;
             }
 
-      pub place-joined : (r : Place) → Joins (messages_in e l n text) (take size d) e' l' n r → Placed (messages_in e l n text) (value_of v) e' l' inside keys' r
-      place-joined (At k m t) (joins is st') =
+      pub place-joined : (r : Option Place) → Joins (messages_in e l n text) (take size d) e' l' n r → Placed (messages_in e l n text) (value_of v) e' l' inside keys' r
+      place-joined (Some p) (joins a b is st') =
           let f = finds.most in
           let s = st.few in
           let z : n ≡ number = omega arith in
-          placed (z ∙ found_number) s (is ∙ sym joined-value) st' (joined-keyed t is st')
-      place-joined Full (joins_none p) = placed_none (rw joined-value p)
+          placed (a ∙ (z ∙ found_number)) (rw a s) (rw b (is ∙ sym joined-value)) (rw b st') (rw b (joined-keyed p.text is st'))
+      place-joined None (joins_none p) = placed_none (rw joined-value p)
 
 pub prefix-count : (d : List ℕ) (size : ℕ) → size ≤ length d → size ≡ length (take size d)
 prefix-count d size p = sym (length-take-le size d p)

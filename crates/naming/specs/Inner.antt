@@ -1,5 +1,5 @@
 -- Keys of labels, and what the functions inside ask and promise. No promise of a call needs it.
-use Rattle.std.specs.Prelude.{ℕ, ◌+◌, ◌-◌, ◌*◌, ◌≤◌, ◌<◌, ◌≡◌, Bool, true, false, List, [], ◌∷◌, leb, ltb, eqb, ℤ, length, take, get_or, set}
+use Rattle.std.specs.Prelude.{ℕ, ◌+◌, ◌-◌, ◌*◌, ◌≤◌, ◌<◌, ◌≡◌, Bool, true, false, List, [], ◌∷◌, leb, ltb, eqb, ℤ, length, take, get_or, set, Option, Some, None}
 use Rattle.base.specs.Tests.{pick, every, between}
 use Rattle.ascii.specs.Words.{zero_digit, nine_digit, bytes_before}
 use Rattle.contents.specs.Limits.{message_size, most_messages, most_text}
@@ -10,7 +10,6 @@ use Rattle.values.specs.Inner.{most_digits}
 pub use Rattle.filing.specs.Bodies.{ListRoom}
 use Rattle.unfolding.specs.Messages.{Entry, Messages, entries_from, entries_bytes, number_in, number_of, joined, with_value}
 use Rattle.naming.specs.declared.places.Place.{Place}
-use Rattle.naming.specs.declared.places.Place.TheVariants.{At, Full}
 use Rattle.naming.specs.Named.{fits}
 
 -- ---- keys
@@ -98,15 +97,15 @@ pub record Finds (e : List ℕ) (n : ℕ) (text name keys keys' : List ℕ) (r :
 -- ---- a value's place
 
 -- The message joined the n of the list at its end, or the list would pass a limit.
-pub data Joins (m : Messages) (name e l : List ℕ) (n : ℕ) : Place → Type 0 where
-  joins : {t : ℕ} → messages_in e l (n + 1) t ≡ joined m name → Standing e l (n + 1) t → Joins m name e l n (At n (n + 1) t)
-  joins_none : fits (joined m name) ≡ false → Joins m name e l n Full
+pub data Joins (m : Messages) (name e l : List ℕ) (n : ℕ) : Option Place → Type 0 where
+  joins : {p : Place} → p.number ≡ n → p.messages ≡ n + 1 → messages_in e l (n + 1) p.text ≡ joined m name → Standing e l (n + 1) p.text → Joins m name e l n (Some p)
+  joins_none : fits (joined m name) ≡ false → Joins m name e l n None
 
 -- The value has this number, and the list stands there as it is with it; or it would pass a limit.
-pub data Placed (m : Messages) (v : ℤ) (e l : List ℕ) (inside : Bool) (keys : List ℕ) : Place → Type 0 where
-  placed : {number n t : ℕ} → number ≡ number_of m v → number ≤ most_messages → messages_in e l n t ≡ with_value m v → Standing e l n t → Keyed inside e l n t keys
-      → Placed m v e l inside keys (At number n t)
-  placed_none : fits (with_value m v) ≡ false → Placed m v e l inside keys Full
+pub data Placed (m : Messages) (v : ℤ) (e l : List ℕ) (inside : Bool) (keys : List ℕ) : Option Place → Type 0 where
+  placed : {p : Place} → p.number ≡ number_of m v → p.number ≤ most_messages → messages_in e l p.messages p.text ≡ with_value m v → Standing e l p.messages p.text
+      → Keyed inside e l p.messages p.text keys → Placed m v e l inside keys (Some p)
+  placed_none : fits (with_value m v) ≡ false → Placed m v e l inside keys None
 
 -- ---- all values
 

@@ -5,23 +5,16 @@ ghost use Rattle.unfolding.specs.Extended.{extended_of};
 ghost use Rattle.naming.specs.Named.{Namable, Names};
 ghost use Rattle.naming.specs.Inner.{messages_in, Standing, Keyed, EachAsked};
 
-use crate::Naming;
+use crate::Named;
 use crate::copying::copy_list;
 use crate::keys::key_list;
-use crate::places::{Place, place_value};
+use crate::places::place_value;
 use extended::Extent;
 
 // One key for each message that a score may have, and one place more, behind the last.
 const KEY_ROOM: usize = 513;
 
-fn narrow(n: usize) -> u16
-    requires { n < 65536 }
-    ensures { result ≡ n }
-{
-    n as u16
-}
-
-// Each of the first `count` values, with the first messages and bytes of text that stand there.
+// Each of the first `count` values, with the first messages and bytes of text that stand there: none where there would be more than a score may have.
 fn name_each(
     values: &[u64],
     count: usize,
@@ -32,37 +25,26 @@ fn name_each(
     inside: bool,
     keys: &mut [u64],
     numbers: &mut [u16],
-) -> Naming
+) -> Option<Named>
     requires { EachAsked values.now count numbers.old × Standing entries.old labels.old messages text × Keyed inside entries.old labels.old messages text keys.old }
     ensures { Names (messages_in entries.old labels.old messages text) (map value_of (take count values.now)) count entries.new labels.new numbers.new result }
 {
     let mut n = messages;
     let mut size = text;
-    let mut i = 0;
-    while i < count {
-        let v = values[i];
-        let place = place_value(v, entries, n, labels, size, inside, keys);
-        let Place::At {
-            number,
-            messages: more,
-            text: longer,
-        } = place
-        else {
-            return Naming::Over;
-        };
-        numbers[i] = narrow(number);
-        n = more;
-        size = longer;
-        i += 1;
+    for i in 0..count {
+        let place = place_value(values[i], entries, n, labels, size, inside, keys)?;
+        numbers[i] = place.number as u16;
+        n = place.messages;
+        size = place.text;
     }
-    Naming::Named {
+    Some(Named {
         messages: n,
         text: size,
-    }
+    })
 }
 
 // Copies the score's entries and text to the fronts of `entries` and `labels`, and has each of the first `count` values find its message there or join it. Puts
-// their numbers at the front of `numbers`.
+// their numbers at the front of `numbers`. None where there would be more messages or text than a score may have.
 pub fn name_values(
     file: &[u8],
     c: Extent,
@@ -71,7 +53,7 @@ pub fn name_values(
     entries: &mut [u8],
     labels: &mut [u8],
     numbers: &mut [u16],
-) -> Naming
+) -> Option<Named>
     requires { Namable file.now c values.now count entries.old labels.old numbers.old }
     ensures { Names (extended_of file.now).messages (map value_of (take count values.now)) count entries.new labels.new numbers.new result }
 {

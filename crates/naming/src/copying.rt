@@ -18,13 +18,11 @@ fn copy_entries(file: &[u8], at: usize, count: usize, entries: &mut [u8])
     requires { (at + message_size * count ≤ length file.now) × (message_size * count ≤ length entries.old) }
     ensures { Copied file.now at count entries.new }
 {
-    let mut i = 0;
-    while i < count {
+    for i in 0..count {
         let place = MESSAGE_SIZE * i;
         let start = read16(file, at + place);
         let size = read16(file, at + place + 2);
         put_entry(entries, place, start, size);
-        i += 1;
     }
 }
 
@@ -45,15 +43,13 @@ pub fn all_within(entries: &[u8], n: usize, text: usize) -> bool
     requires { message_size * n ≤ length entries.now }
     ensures { result ≡ all_within text (entries_from entries.now 0 n) }
 {
-    let mut i = 0;
-    while i < n {
+    for i in 0..n {
         let place = MESSAGE_SIZE * i;
         let start = read16(entries, place);
         let size = read16(entries, place + 2);
         if text < start + size {
             return false;
         }
-        i += 1;
     }
     true
 }

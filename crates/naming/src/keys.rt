@@ -17,12 +17,6 @@ const MINUS_SYMBOL: u64 = 11;
 
 const SYMBOLS: u64 = 16;
 
-fn wide(b: u8) -> u64
-    ensures { result ≡ b }
-{
-    b as u64
-}
-
 // 1 to 10 for a digit, 11 for a minus sign, 0 for a byte that is in no value's digits.
 fn symbol(b: u8) -> u64
     ensures { (result ≡ symbol b) × (result ≤ most_symbol) }
@@ -36,7 +30,7 @@ fn symbol(b: u8) -> u64
     if b'9' < b {
         return 0;
     }
-    wide(b) - BEFORE_ZERO
+    u64::from(b) - BEFORE_ZERO
 }
 
 // The label's key: its symbols from the last to the first. 0 for a label that is no value's.
@@ -47,10 +41,8 @@ pub fn key_of(label: &[u8]) -> u64
         return 0;
     }
     let mut key: u64 = 0;
-    let mut left = label.len();
-    while 0 < left {
-        left -= 1;
-        let s = symbol(label[left]);
+    for i in (0..label.len()).rev() {
+        let s = symbol(label[i]);
         if s == 0 {
             return 0;
         }
@@ -78,10 +70,8 @@ fn fill_keys(entries: &[u8], n: usize, text: &[u8], keys: &mut [u64])
     requires { (n ≤ length keys.old) × (message_size * n ≤ length entries.now) }
     ensures { take n keys.new ≡ keys_of text.now (entries_from entries.now 0 n) }
 {
-    let mut i = 0;
-    while i < n {
+    for i in 0..n {
         keys[i] = key_at(entries, MESSAGE_SIZE * i, text);
-        i += 1;
     }
 }
 

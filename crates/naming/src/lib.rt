@@ -9,9 +9,9 @@ mod keys;
 mod places;
 mod searches;
 
-// What comes of naming values: how many messages and bytes of text there then are, or more than a score may have.
+// How many messages and bytes of text there are once the values are named.
 #[derive(Clone, Copy)]
-pub enum Naming {
-    Named { messages: usize, text: usize },
-    Over,
+pub struct Named {
+    pub messages: usize,
+    pub text: usize,
 }

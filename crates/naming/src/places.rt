@@ -10,39 +10,36 @@ use contents::limits::{MESSAGE_SIZE, MOST_MESSAGES, MOST_TEXT};
 use filing::put_entry;
 use values::put_value;
 
-// A message's number, and how many messages and bytes of text there then are; none where it has no room.
+// A message's number, and how many messages and bytes of text there then are.
 #[derive(Clone, Copy)]
-pub enum Place {
-    At {
-        number: usize,
-        messages: usize,
-        text: usize,
-    },
-    Full,
+pub struct Place {
+    pub number: usize,
+    pub messages: usize,
+    pub text: usize,
 }
 
 const DIGIT_ROOM: usize = 24;
 
-// "else it is added at the end, in page order, its label at the text's end"
-fn join(entries: &mut [u8], n: usize, labels: &mut [u8], text: usize, name: &[u8]) -> Place
+// "else it is added at the end, in page order, its label at the text's end": none where it has no room.
+fn join(entries: &mut [u8], n: usize, labels: &mut [u8], text: usize, name: &[u8]) -> Option<Place>
     requires { Standing entries.old labels.old n text × (length name.now ≤ most_digits) }
     ensures { Joins (messages_in entries.old labels.old n text) name.now entries.new labels.new n result }
 {
     let size = name.len();
     let end = text + size;
     if MOST_MESSAGES <= n {
-        return Place::Full;
+        return None;
     }
     if MOST_TEXT < end {
-        return Place::Full;
+        return None;
     }
     put_entry(entries, MESSAGE_SIZE * n, text, size);
     put_bytes(labels, text, name);
-    Place::At {
+    Some(Place {
         number: n,
         messages: n + 1,
         text: end,
-    }
+    })
 }
 
 // Of the first `n` messages and `text` bytes of text.
@@ -54,7 +51,7 @@ pub fn place_value(
     text: usize,
     inside: bool,
     keys: &mut [u64],
-) -> Place
+) -> Option<Place>
     requires { (v < whole_range) × Standing entries.old labels.old n text × Keyed inside entries.old labels.old n text keys.old }
     ensures { Placed (messages_in entries.old labels.old n text) (value_of v) entries.new labels.new inside keys.new result }
 {
@@ -63,11 +60,11 @@ pub fn place_value(
     let name = &digits[..size];
     let number = find(entries, n, &labels[..text], inside, keys, name);
     if number < n {
-        return Place::At {
+        return Some(Place {
             number,
             messages: n,
             text,
-        };
+        });
     }
     join(entries, n, labels, text, name)
 }

@@ -41,14 +41,12 @@ fn find_label(entries: &[u8], n: usize, text: &[u8], name: &[u8]) -> usize
     requires { message_size * n ≤ length entries.now }
     ensures { (result ≡ number_in text.now name.now (entries_from entries.now 0 n)) × (result ≤ n) }
 {
-    let mut i = 0;
-    while i < n {
+    for i in 0..n {
         if is_named(entries, MESSAGE_SIZE * i, text, name) {
             return i;
         }
-        i += 1;
     }
-    i
+    n
 }
 
 // By keys where every message lies within the text, so that each has the key of its label for ever; else by their bytes. The key of a message that joins the

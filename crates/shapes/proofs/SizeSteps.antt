@@ -12,16 +12,20 @@ use mir.Syntax.{w64}
 use mir.Val.{Fits}
 use borrow.Author.Tests.{eq-eqb, ne_eqb, leb-true, leb-false, le-leb, lt-leb}
 use borrow.Author.Rules.{rules}
+use Rattle.std.specs.Prelude.{Option, Some, None}
 use Rattle.base.specs.Tests.{pick, every}
 use Rattle.shapes.specs.declared.Shape.{Shape}
 use Rattle.shapes.specs.declared.Own.{Own}
 use Rattle.shapes.specs.declared.Sizes.{Sizes}
-use Rattle.shapes.specs.declared.Sizes.TheVariants.{Within, Over}
 use Rattle.contents.specs.Limits.{most_items, most_actions, deepest}
 use Rattle.shapes.specs.Limits.{row_words, word_range}
 use Rattle.shapes.specs.Shapes.{shape_at, shapes_from, Tree, end, within_of, becomes, unfolded, items, actions, depth}
 use Rattle.shapes.specs.Sizes.{told, told_from, sizes_of, own_of, Bounded}
 use Rattle.shapes.proofs.UnfoldLaws.{adds, unfolded-none, unfolded-more, own-within, items-one, items-none, items-take, items-drop}
+
+-- the sizes of what is within the limits
+abbrev pub sized : (items actions : ℕ) → Option Sizes
+sized n a = Some (record { items = n; actions = a })
 
 -- ---- what is told
 
@@ -31,25 +35,25 @@ pub record Fine (n a d : ℕ) : Type 0 where
   pub sent : a ≤ most_actions
   pub flat : d ≤ deepest
 
-pub told-fine : (n a d : ℕ) → Fine n a d → told n a d ≡ Within n a
+pub told-fine : (n a d : ℕ) → Fine n a d → told n a d ≡ sized n a
 unfolding told pick every
 told-fine n a d f = rw (le-leb n most_items f.few, le-leb a most_actions f.sent, le-leb d deepest f.flat)
 
-told-many : (n a d : ℕ) → most_items < n → told n a d ≡ Over
+told-many : (n a d : ℕ) → most_items < n → told n a d ≡ None
 unfolding told pick every
 told-many n a d p = rw (lt-leb n most_items p)
 
-told-sent : (n a d : ℕ) → most_actions < a → told n a d ≡ Over
+told-sent : (n a d : ℕ) → most_actions < a → told n a d ≡ None
 unfolding told pick every
 told-sent n a d p = go (leb n most_items) refl where
-  go : (t : Bool) → leb n most_items ≡ t → told n a d ≡ Over
+  go : (t : Bool) → leb n most_items ≡ t → told n a d ≡ None
   go true e = rw (e, lt-leb a most_actions p)
   go false e = rw e
 
-told-deep : (n a d : ℕ) → deepest < d → told n a d ≡ Over
+told-deep : (n a d : ℕ) → deepest < d → told n a d ≡ None
 unfolding told pick every
 told-deep n a d p = go (leb n most_items) (leb a most_actions) refl refl where
-  go : (t u : Bool) → leb n most_items ≡ t → leb a most_actions ≡ u → told n a d ≡ Over
+  go : (t u : Bool) → leb n most_items ≡ t → leb a most_actions ≡ u → told n a d ≡ None
   go true true e f = rw (e, f, lt-leb d deepest p)
   go true false e f = rw (e, f)
   go false u e f = rw e
@@ -75,17 +79,20 @@ pub record Exactly (n a d m b : ℕ) : Type 0 where
   pub items : m ≡ n
   pub actions : b ≡ a
 
-pub exactly : (n a d m b : ℕ) → told n a d ≡ Within m b → Exactly n a d m b
+pub exactly : (n a d m b : ℕ) → told n a d ≡ sized m b → Exactly n a d m b
 exactly n a d m b e = go (either n a d) where
   go : Either n a d → Exactly n a d m b
-  go (fine f) = let w = told-fine n a d f in record { fine = f; items = cc; actions = cc }
+  go (fine f) =
+      let w = told-fine n a d f in
+      let s : ◌≡◌ {A = Sizes} (record { items = m; actions = b }) (record { items = n; actions = a }) = cc in
+      record { fine = f; items = ap (λ (x : Sizes). x.items) s; actions = ap (λ (x : Sizes). x.actions) s }
   go (many p) = let w = told-many n a d p in let z : ◌≡◌ {A = ℕ} 0 1 = cc in absurd (omega arith)
   go (often p) = let w = told-sent n a d p in let z : ◌≡◌ {A = ℕ} 0 1 = cc in absurd (omega arith)
   go (deeper p) = let w = told-deep n a d p in let z : ◌≡◌ {A = ℕ} 0 1 = cc in absurd (omega arith)
 
-over-more : (n a d N A D : ℕ) → told n a d ≡ Over → n ≤ N → a ≤ A → d ≤ D → told N A D ≡ Over
+over-more : (n a d N A D : ℕ) → told n a d ≡ None → n ≤ N → a ≤ A → d ≤ D → told N A D ≡ None
 over-more n a d N A D e p q r = go (either N A D) where
-  go : Either N A D → told N A D ≡ Over
+  go : Either N A D → told N A D ≡ None
   go (fine f) =
       let x : N ≤ most_items = f.few in
       let y : A ≤ most_actions = f.sent in
@@ -153,8 +160,8 @@ spread f x k y z =
 
 -- ---- the walk
 
-module _ (ws : List ℕ) (i left f d n a : ℕ) (W : Sizes) (all : told_from f d n a (unfolded (shapes_from ws i left)) ≡ W) where
-  pub size_none : left ≤ 0 → n ≤ most_items → a ≤ most_actions → d ≤ deepest → Within n a ≡ W
+module _ (ws : List ℕ) (i left f d n a : ℕ) (W : Option Sizes) (all : told_from f d n a (unfolded (shapes_from ws i left)) ≡ W) where
+  pub size_none : left ≤ 0 → n ≤ most_items → a ≤ most_actions → d ≤ deepest → sized n a ≡ W
   unfolding told_from items actions depth
   size_none p x y z =
       let e : unfolded (shapes_from ws i left) ≡ end = ap unfolded (items-none ws i left p) ∙ unfolded-none in
@@ -169,32 +176,32 @@ module _ (ws : List ℕ) (i left f d n a : ℕ) (W : Sizes) (all : told_from f d
     own_split : Split ws i left o (unfolded (shapes_from ws (i + 1) (min o.opened (left - 1)))) (unfolded (shapes_from ws (i + (1 + min o.within (left - 1))) (left - (1 + min o.within (left - 1)))))
     own_split = split ws i left some o eo _ _ refl refl
 
-    pub size-many : most_items < n + f * o.each → Over ≡ W
+    pub size-many : most_items < n + f * o.each → None ≡ W
     unfolding told_from
     size-many p =
         let s = own_split.more in
         let l : f * o.each ≤ f * items (unfolded (shapes_from ws i left)) = mul-le-mul_left f (omega arith) in
         sym (told-many _ _ _ (omega arith)) ∙ all
 
-    pub size-often : most_actions < a + f * o.sent → Over ≡ W
+    pub size-often : most_actions < a + f * o.sent → None ≡ W
     unfolding told_from
     size-often p =
         let s = own_split.sent in
         let l : f * o.sent ≤ f * actions (unfolded (shapes_from ws i left)) = mul-le-mul_left f (omega arith) in
         sym (told-sent _ _ _ (omega arith)) ∙ all
 
-    pub size-deep : deepest < d + o.deep → Over ≡ W
+    pub size-deep : deepest < d + o.deep → None ≡ W
     unfolding told_from
     size-deep p =
         let s = own_split.deep in
         sym (told-deep _ _ _ (omega arith)) ∙ all
 
     -- the body's walk
-    module _ (b : ℕ) (eb : b ≡ min o.opened (left - 1)) (w : Sizes)
+    module _ (b : ℕ) (eb : b ≡ min o.opened (left - 1)) (w : Option Sizes)
         (ew : w ≡ told_from (f * o.inner) (d + o.deep) (n + f * o.each) (a + f * o.sent) (unfolded (shapes_from ws (i + 1) b))) where
-      pub size-body-over : w ≡ Over → Over ≡ W
+      pub size-body-over : (r : Option Sizes) → w ≡ None → r ≡ None → r ≡ W
       unfolding told_from
-      size-body-over e =
+      size-body-over r e g =
           let s = split ws i left some o eo b _ eb refl in
           let x = s.more in
           let y = s.sent in
@@ -204,9 +211,9 @@ module _ (ws : List ℕ) (i left f d n a : ℕ) (W : Sizes) (all : told_from f d
           let R = unfolded (shapes_from ws (i + (1 + min o.within (left - 1))) (left - (1 + min o.within (left - 1)))) in
           let u : f * items (unfolded (shapes_from ws i left)) ≡ f * o.each + f * o.inner * B + f * items R = ap (λ (k : ℕ). f * k) x ∙ spread f o.each o.inner B (items R) in
           let v : f * actions (unfolded (shapes_from ws i left)) ≡ f * o.sent + f * o.inner * C + f * actions R = ap (λ (k : ℕ). f * k) y ∙ spread f o.sent o.inner C (actions R) in
-          sym (over-more _ _ _ _ _ _ (sym ew ∙ e) (omega arith) (omega arith) (omega arith)) ∙ all
+          g ∙ (sym (over-more _ _ _ _ _ _ (sym ew ∙ e) (omega arith) (omega arith) (omega arith)) ∙ all)
 
-      module _ (m c : ℕ) (e : w ≡ Within m c) where
+      module _ (m c : ℕ) (e : w ≡ sized m c) where
         inside : Exactly (n + f * o.each + f * o.inner * items (unfolded (shapes_from ws (i + 1) b))) (a + f * o.sent + f * o.inner * actions (unfolded (shapes_from ws (i + 1) b))) (d + o.deep + depth (unfolded (shapes_from ws (i + 1) b))) m c
         unfolding told_from
         inside = exactly _ _ _ m c (sym ew ∙ e)
@@ -311,7 +318,7 @@ pub ruleset owning = (own-action, own-group, own-nothing, own-loop, own-curve, o
 
 -- ---- the whole table, once, under nothing
 
-pub sizes-all : (r : Sizes) (s : Tree) → r ≡ told_from 1 0 0 0 s → r ≡ sizes_of s
+pub sizes-all : (r : Option Sizes) (s : Tree) → r ≡ told_from 1 0 0 0 s → r ≡ sizes_of s
 unfolding told_from sizes_of
 sizes-all r s e =
     let x : 0 + 1 * items s ≡ items s = omega arith in

@@ -1,24 +1,23 @@
 -- The sizes of what a table unfolds to, or that they are over a limit: found before anything is made.
-use Rattle.std.specs.Prelude.{ℕ, ◌+◌, ◌*◌, ◌≤◌, ◌<◌, [], ◌∷◌, leb, eqb}
+use Rattle.std.specs.Prelude.{ℕ, ◌+◌, ◌*◌, ◌≤◌, ◌<◌, [], ◌∷◌, leb, eqb, Option, Some, None}
 use Rattle.base.specs.Tests.{pick, every}
 use Rattle.shapes.specs.declared.Shape.{Shape}
 use Rattle.shapes.specs.declared.Own.{Own}
 use Rattle.shapes.specs.declared.Sizes.{Sizes}
-use Rattle.shapes.specs.declared.Sizes.TheVariants.{Within, Over}
 use Rattle.contents.specs.Limits.{most_items, most_actions, deepest}
 use Rattle.shapes.specs.Limits.{row_words, word_range}
 use Rattle.shapes.specs.Shapes.{Tree, is_action, is_group, is_loop, within_of, items, actions, depth}
 
--- Items and actions where they and the depth are within the limits.
-unfoldable pub told : (items actions depth : ℕ) → Sizes
-told n a d = pick (every (leb n most_items ∷ leb a most_actions ∷ leb d deepest ∷ [])) (Within n a) Over
+-- Items and actions, where they and the depth are within the limits.
+unfoldable pub told : (items actions depth : ℕ) → Option Sizes
+told n a d = pick (every (leb n most_items ∷ leb a most_actions ∷ leb d deepest ∷ [])) (Some (record { items = n; actions = a })) None
 
 -- What is told of a score that stands factor times, under depth d, where n items and a actions stand besides.
-unfoldable pub told_from : (factor d n a : ℕ) → Tree → Sizes
+unfoldable pub told_from : (factor d n a : ℕ) → Tree → Option Sizes
 told_from factor d n a s = told (n + factor * items s) (a + factor * actions s) (d + depth s)
 
 -- "18: the unfolded score would have .. more than 2,048 items, 1,024 actions, .. or an item at depth 9"
-unfoldable pub sizes_of : Tree → Sizes
+unfoldable pub sizes_of : Tree → Option Sizes
 sizes_of s = told (items s) (actions s) (depth s)
 
 -- ---- what one item comes to by itself, in the code's terms

@@ -2,8 +2,8 @@
 // a factor is never above the items that it stands for. A walk into a body is at least one level deeper, so there are never more than eight at a time.
 #![tactic(auto)]
 
-ghost use Rattle.std.specs.Prelude.{◌≡◌, min, ◌+◌, ◌*◌, ◌<◌, ◌≤◌, length};
-ghost use Rattle.shapes.specs.Limits.{row_words, word_range};
+ghost use Rattle.std.specs.Prelude.{◌≡◌, ◌+◌, ◌*◌, ◌<◌, ◌≤◌, length};
+ghost use Rattle.shapes.specs.Limits.{row_words};
 ghost use Rattle.shapes.specs.Shapes.{shape_at, shapes_from, within_of, unfolded};
 ghost use Rattle.shapes.specs.Sizes.{told_from, sizes_of, own_of, Small, Bounded, Sizable};
 
@@ -31,23 +31,11 @@ pub struct Own {
     pub within: usize,
 }
 
-// The unfolded score's items and actions, or that it is over a limit.
+// The unfolded score's items and actions.
 #[derive(Clone, Copy)]
-pub enum Sizes {
-    Within(usize, usize),
-    Over,
-}
-
-pub fn smaller(a: usize, b: usize) -> usize
-    ensures { result ≡ min a b }
-{
-    if a < b { a } else { b }
-}
-
-pub fn wide(x: u32) -> usize
-    ensures { (result ≡ x) × (result < word_range) }
-{
-    x as usize
+pub struct Sizes {
+    pub items: usize,
+    pub actions: usize,
 }
 
 pub fn shape_at(words: &[u32], k: usize) -> Shape
@@ -55,9 +43,9 @@ pub fn shape_at(words: &[u32], k: usize) -> Shape
     ensures { (result ≡ shape_at words.now k) × Small result }
 {
     let at = ROW_WORDS * k;
-    let kind = wide(words[at]);
-    let last = wide(words[at + 1]);
-    let times = wide(words[at + 2]);
+    let kind = words[at] as usize;
+    let last = words[at + 1] as usize;
+    let times = words[at + 2] as usize;
     Shape { kind, last, times }
 }
 
@@ -138,7 +126,7 @@ fn own_at(words: &[u32], k: usize) -> Own
     own_of(shape_at(words, k))
 }
 
-// The `count` items from item `at` on, which stand `factor` times, under `depth` levels, besides so many items and actions.
+// The `count` items from item `at` on, which stand `factor` times, under `depth` levels, besides so many items and actions: none where that is over a limit.
 pub fn size_items(
     words: &[u32],
     at: usize,
@@ -147,7 +135,7 @@ pub fn size_items(
     factor: usize,
     items: usize,
     actions: usize,
-) -> Sizes
+) -> Option<Sizes>
     requires { Sizable (length words.now) at count depth factor items actions }
     ensures { result ≡ told_from factor depth items actions (unfolded (shapes_from words.now at count)) }
 {
@@ -155,36 +143,37 @@ pub fn size_items(
     let mut left = count;
     let mut n = items;
     let mut a = actions;
+    // No range: an item passes all that lies within it.
     while 0 < left {
         let o = own_at(words, i);
         let more = n + factor * o.each;
         if MOST_ITEMS < more {
-            return Sizes::Over;
+            return None;
         }
         let sent = a + factor * o.sent;
         if MOST_ACTIONS < sent {
-            return Sizes::Over;
+            return None;
         }
         let deeper = depth + o.deep;
         if DEEPEST < deeper {
-            return Sizes::Over;
+            return None;
         }
-        let body = smaller(o.opened, left - 1);
-        let w = size_items(words, i + 1, body, deeper, factor * o.inner, more, sent);
-        let Sizes::Within(m, b) = w else {
-            return Sizes::Over;
-        };
-        n = m;
-        a = b;
-        let passed = 1 + smaller(o.within, left - 1);
+        let body = o.opened.min(left - 1);
+        let w = size_items(words, i + 1, body, deeper, factor * o.inner, more, sent)?;
+        n = w.items;
+        a = w.actions;
+        let passed = 1 + o.within.min(left - 1);
         i += passed;
         left -= passed;
     }
-    Sizes::Within(n, a)
+    Some(Sizes {
+        items: n,
+        actions: a,
+    })
 }
 
-// The sizes of what the first `count` items of the table unfold to.
-pub fn find_sizes(words: &[u32], count: usize) -> Sizes
+// The sizes of what the first `count` items of the table unfold to, where they are within the limits.
+pub fn find_sizes(words: &[u32], count: usize) -> Option<Sizes>
     requires { row_words * count ≤ length words.now }
     ensures { result ≡ sizes_of (unfolded (shapes_from words.now 0 count)) }
 {

@@ -1,6 +1,6 @@
 -- A curve's values span by span, and how many there are: as many as its spans have steps, and one more.
 -- Assumes nothing.
-use mathlib.Core.Path.{◌≡◌, refl, ap}
+use mathlib.Core.Path.{◌≡◌, ap}
 use mathlib.Core.List.{List, [], ◌∷◌, ◌++◌}
 use Prim.Native.Nat.{ℕ, zero, suc, ◌+◌, ◌-◌, ◌*◌, ◌/◌, ◌<◌, ◌≤◌}
 use native.Mathlib.Omega.{arith}
@@ -81,18 +81,18 @@ pub record Counting (f : List ℕ) (from points step at left n : ℕ) : Type 0 w
   pub most : n + word_range * left ≤ 1 + word_range * points
 
 module _ (f : List ℕ) (from points step : ℕ) (asked : Drawn (length f) from points step) where
-  pub counting-start : Counting f from points step from points 1
-  counting-start = record { some = asked.some; few = omega arith; place = refl; count = refl; most = omega arith }
+  pub counting-start : (left : ℕ) → left ≡ points → Counting f from points step from left 1
+  counting-start left u = let s = asked.some in record { some = omega arith; few = omega arith; place = rw u; count = rw u; most = omega arith }
 
   module _ (at left n : ℕ) (known : Counting f from points step at left n) where
-    pub counting-step : (s : ℕ) → 1 < left → s ≡ (point_at f at).span / step → s < word_range → Counting f from points step (at + point_size) (left - 1) (n + s)
-    counting-step s p e l =
+    pub counting-step : (rest s : ℕ) → rest ≡ left - 1 → 1 < left → s ≡ (point_at f at).span / step → s < word_range → Counting f from points step (at + point_size) rest (n + s)
+    counting-step rest s u p e l =
         let q = known.place in
         let m = known.most in
         let k = known.few in
         let c : n + length (curve_values step (points_from f at left)) ≡ 1 + length (curve_values step (points_from f from points)) = known.count in
         let d = curve-count f step at left p in
-        record { some = omega arith; few = omega arith; place = omega arith; count = omega arith; most = omega arith }
+        record { some = omega arith; few = omega arith; place = omega arith; count = rw u (omega arith); most = omega arith }
 
     pub counting-end : left ≤ 1 → n ≡ length (curve_values step (points_from f from points))
     counting-end p =

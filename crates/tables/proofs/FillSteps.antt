@@ -83,8 +83,8 @@ pub record Drawing (f : List ℕ) (o : List ℕ) (from points step n at left : �
   pub adding : Adding o n (curve_values step (points_from f from points)) (curve_values step (points_from f at left)) m r
 
 module _ (f o : List ℕ) (from points step n : ℕ) (drawn : Drawn (length f) from points step) (asked : Addable o n (length (curve_values step (points_from f from points)))) where
-  pub drawing-start : Drawing f o from points step n from points o n
-  drawing-start = record { some = drawn.some; few = omega arith; place = refl; adding = adding-start o n _ asked }
+  pub drawing-start : (left : ℕ) → left ≡ points → Drawing f o from points step n from left o n
+  drawing-start left u = let s = drawn.some in record { some = omega arith; few = omega arith; place = rw u; adding = rw u (adding-start o n _ asked) }
 
   module _ (at left : ℕ) (m : List ℕ) (r : ℕ) (known : Drawing f o from points step n at left m r) where
     pub drawing-size : length m ≡ length o
@@ -114,11 +114,11 @@ module _ (f o : List ℕ) (from points step n : ℕ) (drawn : Drawn (length f) f
             let b : span / step ≡ (point_at f at).span / step = rw es in
             adding-room o m _ _ n r (span / step) known.adding asked (omega arith)
 
-        pub drawing-next : (m' : List ℕ) (r' : ℕ) → Added m r (span_values (value_of v) (value_of w) step span) m' r' → Drawing f o from points step n (at + point_size) (left - 1) m' r'
-        drawing-next m' r' a =
+        pub drawing-next : (rest : ℕ) (m' : List ℕ) (r' : ℕ) → rest ≡ left - 1 → Added m r (span_values (value_of v) (value_of w) step span) m' r' → Drawing f o from points step n (at + point_size) rest m' r'
+        drawing-next rest m' r' u a =
             let q = known.place in
             let k = known.few in
-            record { some = omega arith; few = omega arith; place = omega arith; adding = adding-next o m m' _ _ _ _ n r r' known.adding owed a }
+            record { some = omega arith; few = omega arith; place = omega arith; adding = rw u (adding-next o m m' _ _ _ _ n r r' known.adding owed a) }
 
     module _ (l : left ≤ 1) where
       one-owed : curve_values step (points_from f at left) ≡ (point_at f at).value ∷ []

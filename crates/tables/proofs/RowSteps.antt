@@ -9,6 +9,7 @@ use lib.Seq.{take-add, drop-drop, take-append_seam, drop-append_seam}
 use mir.Syntax.{w64}
 use mir.Val.{Fits}
 use borrow.Author.Rules.{rules}
+use Rattle.std.specs.Prelude.{Some, None}
 use Rattle.ascii.specs.Laying.{Laid}
 use Rattle.ascii.proofs.LayLaws.{laid-join, laid-byte, laid-nothing}
 use Rattle.contents.specs.Limits.{most_items, most_actions}
@@ -19,7 +20,6 @@ use Rattle.extended.specs.Folds.{folded_at}
 use Rattle.extended.specs.Points.{points_after, values_of, all_values}
 use Rattle.extended.specs.Inner.{word_range, SmallFolded, Foldable}
 use Rattle.shapes.specs.Limits.{row_words}
-use Rattle.tables.specs.declared.Table.TheVariants.{Filled, Over}
 use Rattle.tables.specs.Tables.{times_of, row_of, table_of, values_in, table_in, Tabled}
 use Rattle.tables.specs.Inner.{most_count, points_of, times_as, items_left, points_left, RowIn}
 use Rattle.tables.proofs.WalkSteps.{Walk, walk_start, walk_none, walk-item, walk-reached, walk-next, walk-fits, walk_more, walk-count, left_after, items-all, points-all}
@@ -97,7 +97,7 @@ module _ (f : List ℕ) (c : Extent) (o m : List ℕ) (k used first : ℕ) (know
   unfolding table_of
   nothing-owed p = rw (walk_none f c k used known.walk p)
 
-  pub tabling-end : c.items ≤ k → Tabled f c o m (Filled first)
+  pub tabling-end : c.items ≤ k → Tabled f c o m (Some first)
   tabling-end p =
       let s : first + length (all_values (items_left f c k) (points_left f c used)) ≡ length (values_in f c) = known.count in
       let z = no-values-left p in
@@ -106,7 +106,7 @@ module _ (f : List ℕ) (c : Extent) (o m : List ℕ) (k used first : ℕ) (know
       let q : row_words * k ≡ row_words * c.items = omega arith in
       let w = known.few in
       record {
-        filled = λ h. ap Filled e;
+        filled = λ h. rw e;
         laid = λ h. all_laid o (table_in f c) m (row_words * k) (row_words * c.items) q (known.owed ∙ nothing-owed p) known.laid;
         over = λ (h : most_actions < length (values_in f c)). absurd (omega arith);
       }
@@ -114,7 +114,7 @@ module _ (f : List ℕ) (c : Extent) (o m : List ℕ) (k used first : ℕ) (know
   module _ (l : k < c.items) (i : Folded) (e : i ≡ folded_at f (items_start c + folded_size * k)) (small : SmallFolded i) where
     module _ (n : ℕ) (p : n ≡ length (values_of i (points_left f c used))) where
       -- what is left can only add to the values
-      pub tabling-over : most_actions < first + n → Tabled f c o m Over
+      pub tabling-over : most_actions < first + n → Tabled f c o m None
       tabling-over q =
           let s : first + length (all_values (items_left f c k) (points_left f c used)) ≡ length (values_in f c) = known.count in
           let a = walk-count f c k used known.walk l i e small (points_of i) refl in

@@ -1,6 +1,6 @@
 -- The items of an extended score as a table of words, and the values of its curves as words. What unfolding promises doesn't need these: they need not be
 -- believed.
-use Rattle.std.specs.Prelude.{ℕ, ◌+◌, ◌*◌, ◌<◌, ◌≤◌, ◌≡◌, List, [], ◌∷◌, ◌++◌, map, ℤ, length, take}
+use Rattle.std.specs.Prelude.{ℕ, ◌+◌, ◌*◌, ◌<◌, ◌≤◌, ◌≡◌, List, [], ◌∷◌, ◌++◌, map, ℤ, length, take, Option, Some, None}
 use Rattle.base.specs.Tests.{pick}
 use Rattle.ascii.specs.Laying.{Laid}
 use Rattle.contents.specs.Limits.{most_actions}
@@ -13,8 +13,6 @@ use Rattle.extended.specs.Layout.{items_start, points_start}
 use Rattle.extended.specs.Folds.{is_curve, folded_from}
 use Rattle.extended.specs.Points.{points_from, points_after, values_of, all_values}
 use Rattle.shapes.specs.Limits.{row_words}
-use Rattle.tables.specs.declared.Table.{Table}
-use Rattle.tables.specs.declared.Table.TheVariants.{Filled, Over}
 
 -- ---- the table
 
@@ -45,10 +43,10 @@ abbrev pub table_in : List ℕ → Extent → List ℕ
 table_in f c = table_of (items_in f c) (points_in f c) 0
 
 -- What became of the words where the table was to be filled.
-pub record Tabled (f : List ℕ) (c : Extent) (entry exit : List ℕ) (r : Table) : Type 0 where
-  pub filled : length (values_in f c) ≤ most_actions → r ≡ Filled (length (values_in f c))
+pub record Tabled (f : List ℕ) (c : Extent) (entry exit : List ℕ) (r : Option ℕ) : Type 0 where
+  pub filled : length (values_in f c) ≤ most_actions → r ≡ Some (length (values_in f c))
   pub laid : length (values_in f c) ≤ most_actions → Laid entry 0 (table_in f c) exit (row_words * c.items)
-  pub over : most_actions < length (values_in f c) → r ≡ Over
+  pub over : most_actions < length (values_in f c) → r ≡ None
 
 -- ---- the values
 

@@ -26,12 +26,10 @@ fn count_curve(file: &[u8], from: usize, points: usize, step: usize) -> usize
     ensures { (result ≡ length (curve_values step (points_from file.now from points))) × (result ≤ most_count) }
 {
     let mut at = from;
-    let mut left = points;
     let mut n = 1;
-    while 1 < left {
+    for _ in 1..points {
         n += count_span(file, at, step);
         at += POINT_SIZE;
-        left -= 1;
     }
     n
 }

@@ -20,10 +20,8 @@ fn fill_span(values: &mut [u64], n: usize, v: u64, w: u64, step: u64, span: u64)
     ensures { Added values.old n (span_values (value_of v) (value_of w) step span) values.new result }
 {
     let count = (span / step) as usize;
-    let mut j = 0;
-    while j < count {
+    for j in 0..count {
         values[n + j] = curve_value(v, w, step, span, j as u64);
-        j += 1;
     }
     n + count
 }
@@ -50,15 +48,13 @@ fn fill_curve(
     ensures { Added values.old n (curve_values step (points_from file.now from points)) values.new result }
 {
     let mut at = from;
-    let mut left = points;
     let mut next = n;
-    while 1 < left {
+    for _ in 1..points {
         let v = value_at(file, at);
         let w = value_at(file, at + POINT_SIZE);
         let span = span_at(file, at);
         next = fill_span(values, next, v, w, step as u64, span as u64);
         at += POINT_SIZE;
-        left -= 1;
     }
     let v = value_at(file, at);
     fill_last(values, next, v)
@@ -80,14 +76,12 @@ pub fn fill_values(file: &[u8], c: Extent, values: &mut [u64]) -> usize
     requires { Foldable file.now c × (length (values_in file.now c) ≤ most_actions) × (most_actions ≤ length values.old) }
     ensures { Valued file.now c values.new result }
 {
-    let mut k = 0;
     let mut used = 0;
     let mut n = 0;
-    while k < c.items {
+    for k in 0..c.items {
         let i = item_of(file, c, k);
         n = fill_item(file, c, used, i, values, n);
         used += points_of(i);
-        k += 1;
     }
     n
 }

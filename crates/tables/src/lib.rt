@@ -8,10 +8,3 @@ mod rows;
 
 pub use filling::fill_values;
 pub use rows::fill_table;
-
-// The table is filled, and so many values do all curves have together; or these are more than the actions that a score can have.
-#[derive(Clone, Copy)]
-pub enum Table {
-    Filled { values: usize },
-    Over,
-}

@@ -7,27 +7,18 @@ ghost use Rattle.shapes.specs.Limits.{row_words};
 ghost use Rattle.tables.specs.Tables.{row_of, Tabled};
 ghost use Rattle.tables.specs.Inner.{RowIn};
 
-use crate::Table;
 use crate::counting::{count_values, times_of};
 use crate::reading::{item_of, points_of};
 use contents::limits::MOST_ACTIONS;
 use extended::{Extent, Folded};
 use shapes::ROW_WORDS;
 
-// No bits are lost.
-fn word(n: usize) -> u32
-    requires { n < word_range }
-    ensures { result ≡ n }
-{
-    n as u32
-}
-
 // One word more.
 fn put_word(table: &mut [u32], at: usize, n: usize) -> usize
     requires { (at + 1 ≤ length table.old) × (n < word_range) }
     ensures { Laid table.old at (n ∷ []) table.new result }
 {
-    table[at] = word(n);
+    table[at] = n as u32;
     at + 1
 }
 
@@ -42,26 +33,25 @@ fn put_row(table: &mut [u32], at: usize, i: Folded, times: usize, first: usize) 
     put_word(table, at, first)
 }
 
-// The table of all items at the front of `table`; its end as it was. Over as soon as there are too many values: what is left can only add to them.
-pub fn fill_table(file: &[u8], c: Extent, table: &mut [u32]) -> Table
+// The table of all items at the front of `table`; its end as it was. Answers how many values all curves have together: none as soon as there are more than the
+// actions that a score can have, since what is left can only add to them.
+pub fn fill_table(file: &[u8], c: Extent, table: &mut [u32]) -> Option<usize>
     requires { Foldable file.now c × (c.items ≤ most_items) × (row_words * most_items ≤ length table.old) }
     ensures { Tabled file.now c table.old table.new result }
 {
-    let mut k = 0;
     let mut used = 0;
     let mut first = 0;
-    while k < c.items {
+    for k in 0..c.items {
         let i = item_of(file, c, k);
         let n = count_values(file, c, used, i);
         let next = first + n;
         if MOST_ACTIONS < next {
-            return Table::Over;
+            return None;
         }
         let times = times_of(i, n);
         put_row(table, ROW_WORDS * k, i, times, first);
         first = next;
         used += points_of(i);
-        k += 1;
     }
-    Table::Filled { values: first }
+    Some(first)
 }

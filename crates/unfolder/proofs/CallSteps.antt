@@ -6,13 +6,11 @@ use Prim.Native.Nat.{ℕ, ◌<◌, ◌≤◌}
 use lib.ListN.{length}
 use borrow.Author.Tests.{le-leb, lt-leb}
 use borrow.Author.Rules.{rules}
-use Rattle.std.specs.Prelude.{Result, Err}
+use Rattle.std.specs.Prelude.{Result, Ok, Err}
 use Rattle.base.specs.Tests.{pick}
 use Rattle.base.specs.Checks.{fine}
 use Rattle.contents.specs.Limits.{longest_score}
 use Rattle.extended.specs.Right.{extended_right}
-use Rattle.folding.specs.declared.Folding.{Folding}
-use Rattle.folding.specs.declared.Folding.TheVariants.{Right, Wrong}
 use Rattle.folding.specs.Answers.{folding_of}
 use Rattle.folding.proofs.AnswerLaws.{told-right, told-wrong}
 use Rattle.unfolding.specs.declared.UnfoldError.{UnfoldError}
@@ -29,16 +27,16 @@ module _ (f m : List ℕ) where
   unfolding room_left
   short-left = refl
 
-  module _ (v : Folding) (found : v ≡ folding_of (extended_right f)) where
-    pub call-right : v ≡ Right → extended_right f ≡ fine
+  module _ (v : Result (Unit {0}) ℕ) (found : v ≡ folding_of (extended_right f)) where
+    pub call-right : v ≡ Ok tt → extended_right f ≡ fine
     call-right e = told-right v (extended_right f) found e
 
     module _ (p : longest_score ≤ length m) where
-      pub call-bad : (place : ℕ) → v ≡ Wrong place → Err (BadExtended place) ≡ unfold_answer (length m) f
+      pub call-bad : (place : ℕ) → v ≡ Err place → Err (BadExtended place) ≡ unfold_answer (length m) f
       unfolding unfold_answer answered pick
       call-bad place e = rw (le-leb longest_score (length m) p, told-wrong v (extended_right f) place found e)
 
-      pub call-answered : v ≡ Right → (m' : List ℕ) (r : Result ℕ UnfoldError) → Answers f m m' r → r ≡ unfold_answer (length m) f
+      pub call-answered : v ≡ Ok tt → (m' : List ℕ) (r : Result ℕ UnfoldError) → Answers f m m' r → r ≡ unfold_answer (length m) f
       unfolding unfold_answer pick
       call-answered e m' r a = rw (le-leb longest_score (length m) p, call-right e) a.answer
 

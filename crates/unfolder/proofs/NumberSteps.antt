@@ -7,7 +7,7 @@ use Prim.Native.Nat.{ℕ, ◌+◌, ◌*◌, ◌≤◌}
 use native.Mathlib.Omega.{arith}
 use lib.ListN.{length, take}
 use borrow.Author.Rules.{rules}
-use Rattle.std.specs.Prelude.{Err}
+use Rattle.std.specs.Prelude.{Option, Some, None, Err}
 use Rattle.ascii.specs.Laying.{Laid}
 use Rattle.contents.specs.declared.Counts.{Counts}
 use Rattle.contents.specs.Limits.{item_size, most_items, most_actions, deepest}
@@ -23,8 +23,7 @@ use Rattle.unfolding.specs.declared.UnfoldError.TheVariants.{OverLimit}
 use Rattle.unfolding.specs.Extended.{extended_of, numbered}
 use Rattle.unfolding.specs.Unfolded.{unfolded, items, actions, depth, page}
 use Rattle.unfolding.specs.Sizes.{counts_on, within_limits}
-use Rattle.naming.specs.declared.Naming.{Naming}
-use Rattle.naming.specs.declared.Naming.TheVariants.{Named, Over}
+use Rattle.naming.specs.declared.Named.{Named}
 use Rattle.naming.specs.Named.{fits, Namable, Names}
 use Rattle.naming.proofs.GrowthLaws.{fits_both}
 use Rattle.naming.proofs.Told.{told_over, told_named, told-numbers}
@@ -63,26 +62,26 @@ module _ (f : List ℕ) (c : Extent) (t : List ℕ) (n : ℕ) (values : List ℕ
         numbers_room = r;
       }
 
-  module _ (es ls ns : List ℕ) (r : Naming) (names : Names (extended_of f).messages (map value_of (take count values)) count es ls ns r) where
+  module _ (es ls ns : List ℕ) (r : Option Named) (names : Names (extended_of f).messages (map value_of (take count values)) count es ls ns r) where
     listed : Names (extended_of f).messages (values_in f c) count es ls ns r
     listed = rw asked.valued.values at names
 
-    pub names-over : (m : List ℕ) → r ≡ Over → Answers f m m (Err OverLimit)
+    pub names-over : (m : List ℕ) → r ≡ None → Answers f m m (Err OverLimit)
     names-over m e =
         over-limit f m
         (λ l. let a : fits (score_in f).messages ≡ true = fits_both (score_in f).messages l.messages_few l.text_short in
         let b : fits (score_in f).messages ≡ false = rw (messages-are f c asked.measured.foldable) (told_over _ _ count es ls ns r listed e) in
         let z : ◌≡◌ {A = ℕ} 0 1 = cc in omega arith)
 
-    module _ (a b : ℕ) (e : r ≡ Named a b) where
+    module _ (a : Named) (e : r ≡ Some a) where
       named-limits : within_limits (score_in f) ≡ true
       named-limits =
-          let k = told_named _ _ count es ls ns r listed a b e in
+          let k = told_named _ _ count es ls ns r listed a e in
           let m = messages-are f c asked.measured.foldable in
           let few = few-is c asked.measured.short in
           let v = events-are f c asked.measured.foldable in
-          let p : a ≡ length (score_in f).messages.entries = rw m k.count in
-          let q : b ≡ length (score_in f).messages.text = rw m k.size in
+          let p : a.messages ≡ length (score_in f).messages.entries = rw m k.count in
+          let q : a.text ≡ length (score_in f).messages.text = rw m k.size in
           limits-hold (score_in f) (record {
             some = omega (arith, few.some);
             events_few = omega (arith, few.events);
@@ -93,17 +92,17 @@ module _ (f : List ℕ) (c : Extent) (t : List ℕ) (n : ℕ) (values : List ℕ
             shallow = asked.measured.shallow;
           })
 
-      pub names-listed : (es₀ ls₀ : List ℕ) → ListRoom es₀ ls₀ → length es ≡ length es₀ → length ls ≡ length ls₀ → Listed f c t ns (record { events = c.events; items = n; messages = a; text = b }) es ls
+      pub names-listed : (es₀ ls₀ : List ℕ) → ListRoom es₀ ls₀ → length es ≡ length es₀ → length ls ≡ length ls₀ → Listed f c t ns (record { events = c.events; items = n; messages = a.messages; text = a.text }) es ls
       unfolding counts_on
       names-listed es₀ ls₀ p u v =
-          let k = told_named _ _ count es ls ns r listed a b e in
+          let k = told_named _ _ count es ls ns r listed a e in
           let m = messages-are f c asked.measured.foldable in
           let w : count ≡ length (values_in f c) = asked.valued.count in
           record {
             foldable = asked.measured.foldable;
             rows = asked.measured.rows;
             room = asked.measured.room;
-            numbers_stand = rw (← w) (told-numbers _ _ count es ls ns r listed a b e);
+            numbers_stand = rw (← w) (told-numbers _ _ count es ls ns r listed a e);
             counts = rw (m, events-are f c asked.measured.foldable, ← asked.measured.count, ← k.count, ← k.size);
             limits = named-limits;
             entries = rw m k.entries;

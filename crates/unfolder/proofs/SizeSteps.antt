@@ -7,7 +7,7 @@ use Prim.Native.Nat.{ℕ, ◌*◌, ◌≤◌}
 use native.Mathlib.Omega.{arith}
 use lib.ListN.{length, take}
 use borrow.Author.Rules.{rules}
-use Rattle.std.specs.Prelude.{Err}
+use Rattle.std.specs.Prelude.{Option, Some, None, Err}
 use Rattle.base.specs.Checks.{fine}
 use Rattle.base.proofs.TestLaws.{told-true, told-false}
 use Rattle.ascii.specs.Laying.{Laid}
@@ -19,14 +19,11 @@ use Rattle.extended.specs.Inner.{SmallExtent, Foldable}
 use Rattle.extended.proofs.RightLaws.{contents-long, right-contents}
 use Rattle.folding.proofs.RightLaws.{right-foldable}
 use Rattle.shapes.specs.declared.Sizes.{Sizes}
-use Rattle.shapes.specs.declared.Sizes.TheVariants.{Within, Over}
 use Rattle.shapes.specs.Limits.{row_words}
 use Rattle.shapes.specs.Shapes.{shapes_from}
 use Rattle.shapes.specs.Shapes as shapes
 use Rattle.shapes.specs.Sizes.{sizes_of}
 use Rattle.shapes.proofs.SizeLaws.{within-exact, over-exact}
-use Rattle.tables.specs.declared.Table.{Table}
-use Rattle.tables.specs.declared.Table.TheVariants as table
 use Rattle.tables.specs.Tables.{points_in, table_in, Tabled}
 use Rattle.tables.proofs.TableLaws.{filled-few, filled-laid, over-many}
 use Rattle.unfolding.specs.declared.UnfoldError.TheVariants.{OverLimit}
@@ -61,12 +58,12 @@ module _ (f : List ℕ) (c : Extent) (t : List ℕ) (asked : Sizable f c t) wher
   pub items-most : c.items ≤ most_items
   items-most = (few-is c asked.short).items
 
-  module _ (t' : List ℕ) (r : Table) (tabled : Tabled f c t t' r) where
-    pub table-over : (m : List ℕ) → r ≡ table.Over → Answers f m m (Err OverLimit)
+  module _ (t' : List ℕ) (r : Option ℕ) (tabled : Tabled f c t t' r) where
+    pub table-over : (m : List ℕ) → r ≡ None → Answers f m m (Err OverLimit)
     table-over m e =
         over-limit f m (λ l. let n = over-many f c t t' (rw e at tabled) in let k = values-least f c asked.foldable in omega (arith, l.actions_few))
 
-    module _ (n : ℕ) (filled : r ≡ table.Filled n) where
+    module _ (n : ℕ) (filled : r ≡ Some n) where
       table-laid : Laid t 0 (table_in f c) t' (row_words * c.items)
       table-laid = filled-laid f c t t' n (rw filled at tabled)
 
@@ -91,16 +88,16 @@ module _ (f : List ℕ) (c : Extent) (t : List ℕ) (asked : Sizable f c t) wher
           rw (items-are f c asked.foldable)
           (depth-here f (items_start c) t' t' c.items (points_in f c) (extended_of f).messages (rows_are f c t' table-rows) asked.foldable.folds)
 
-      module _ (w : Sizes) (found : w ≡ sizes_of (shapes.unfolded (shapes_from t' 0 c.items))) where
-        pub sizes-over : (m : List ℕ) → w ≡ Over → Answers f m m (Err OverLimit)
+      module _ (w : Option Sizes) (found : w ≡ sizes_of (shapes.unfolded (shapes_from t' 0 c.items))) where
+        pub sizes-over : (m : List ℕ) → w ≡ None → Answers f m m (Err OverLimit)
         sizes-over m e =
             over-limit f m
             (λ l. over-exact (shapes.unfolded (shapes_from t' 0 c.items)) (sym found ∙ e)
             (rw tree-items l.items_few) (rw tree-actions l.actions_few) (rw tree-depth l.shallow))
 
-        pub sizes-within : (k a : ℕ) → w ≡ Within k a → Measured f c t' k
-        sizes-within k a e =
-            let x = within-exact (shapes.unfolded (shapes_from t' 0 c.items)) k a (sym found ∙ e) in
+        pub sizes-within : (s : Sizes) → w ≡ Some s → Measured f c t' s.items
+        sizes-within s e =
+            let x = within-exact (shapes.unfolded (shapes_from t' 0 c.items)) s.items s.actions (sym found ∙ e) in
             record {
               foldable = asked.foldable;
               short = asked.short;

@@ -21,12 +21,10 @@ fn copy_durations(extended: &[u8], count: usize, out: &mut [u8]) -> usize
     requires { (events_start + event_size * count ≤ length extended.now) × (event_size * count ≤ length out.old) }
     ensures { Laid out.old 0 (duration_bytes (durations_at extended.now events_start count)) out.new result }
 {
-    let mut i = 0;
     let mut at = 0;
-    while i < count {
+    for i in 0..count {
         let d = read32(extended, EXTENDED_CONTENTS + EVENT_SIZE * i);
         at = put32(out, at, d);
-        i += 1;
     }
     at
 }

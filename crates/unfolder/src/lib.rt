@@ -6,7 +6,7 @@ ghost use Rattle.std.specs.Prelude.{◌≡◌, length};
 ghost use Rattle.unfolding.specs.Answers.{unfold_answer, unfolded_file, room_left};
 
 use contents::limits::LONGEST_SCORE;
-use folding::{Folding, check_extended};
+use folding::check_extended;
 use sizing::measure;
 use unfolding::UnfoldError;
 
@@ -22,9 +22,8 @@ pub fn unfold(extended: &[u8], room: &mut [u8]) -> Result<usize, UnfoldError>
     if room.len() < LONGEST_SCORE {
         return Err(UnfoldError::NoRoom);
     }
-    let found = check_extended(extended);
-    match found {
-        Folding::Right => measure(extended, room),
-        Folding::Wrong { place } => Err(UnfoldError::BadExtended { place }),
+    if let Err(place) = check_extended(extended) {
+        return Err(UnfoldError::BadExtended { place });
     }
+    measure(extended, room)
 }

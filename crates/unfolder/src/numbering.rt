@@ -9,7 +9,7 @@ use building::build_page;
 use contents::Counts;
 use extended::Extent;
 use extended::layout::items_start;
-use naming::{Naming, name_values};
+use naming::name_values;
 use tables::fill_values;
 use unfolding::UnfoldError;
 
@@ -63,15 +63,14 @@ fn list(
     requires { Nameable extended.now c table.now items values.now count × ListRoom entries.old labels.old × (most_actions ≤ length numbers.old) × (longest_score ≤ length room.old) }
     ensures { Answers extended.now room.old room.new result }
 {
-    let named = name_values(extended, c, values, count, entries, labels, numbers);
-    let Naming::Named { messages, text } = named else {
+    let Some(named) = name_values(extended, c, values, count, entries, labels, numbers) else {
         return Err(UnfoldError::OverLimit);
     };
     let k = Counts {
         events: c.events,
         items,
-        messages,
-        text,
+        messages: named.messages,
+        text: named.text,
     };
     lay(extended, c, table, numbers, k, entries, labels, room)
 }

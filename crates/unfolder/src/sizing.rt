@@ -8,8 +8,8 @@ ghost use Rattle.unfolder.specs.Inner.{few, Sizable, Answers};
 use crate::numbering::number;
 use contents::limits::{MOST_EVENTS, MOST_ITEMS, MOST_MESSAGES, MOST_TEXT};
 use extended::{Extent, extent_of};
-use shapes::{Sizes, find_sizes};
-use tables::{Table, fill_table};
+use shapes::find_sizes;
+use tables::fill_table;
 use unfolding::UnfoldError;
 
 // A row of four words for each of 2,048 items.
@@ -44,15 +44,13 @@ fn size_page(
     requires { Sizable extended.now c table.old × (longest_score ≤ length room.old) }
     ensures { Answers extended.now room.old room.new result }
 {
-    let filled = fill_table(extended, c, table);
-    let Table::Filled { values: _ } = filled else {
+    let Some(_) = fill_table(extended, c, table) else {
         return Err(UnfoldError::OverLimit);
     };
-    let sizes = find_sizes(table, c.items);
-    let Sizes::Within(items, _) = sizes else {
+    let Some(sizes) = find_sizes(table, c.items) else {
         return Err(UnfoldError::OverLimit);
     };
-    number(extended, c, table, items, room)
+    number(extended, c, table, sizes.items, room)
 }
 
 pub fn measure(extended: &[u8], room: &mut [u8]) -> Result<usize, UnfoldError>

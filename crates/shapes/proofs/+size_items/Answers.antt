@@ -1,4 +1,7 @@
 use native.Mathlib.Omega.{arith}
+use borrow.Author.Rules.{rules}
+use mathlib.Core.Path.{◌≡◌}
+use Rattle.std.specs.Prelude.{None}
 use Rattle.shapes.proofs.SizeSteps.{inner-most, size_few, size-fewer, size_step, sizing}
 use Rattle.shapes.proofs.+size_items.Goals as goal
 
@@ -35,22 +38,19 @@ returns-then-deeper-gt-DEEPEST t c = search sizing
 pub overflow_sub-left : goal.overflow_sub-left
 overflow_sub-left t c = search sizing
 
-pub smaller-body-requires : goal.smaller-body-requires
-smaller-body-requires t c = search sizing
-
 pub overflow_add-i : goal.overflow_add-i
 overflow_add-i t c = search sizing
 
 pub overflow_mul-factor : goal.overflow_mul-factor
 overflow_mul-factor t c = search sizing
 
-pub size_items-w-requires : goal.size_items-w-requires
-size_items-w-requires t c =
+pub size_items-requires : goal.size_items-requires
+size_items-requires t c =
     let bound = c.own_at-o.ensures.1 in
     let asked = c.requires in (
       omega (arith, bound.some, asked.depth),
       record {
-        table = omega (arith, c.smaller-body.ensures, c.loop-left-test.true, c.loop-left.invariant.0, c.loop-left.invariant.1, asked.table);
+        table = omega (arith, c.min-body.ensures, c.loop-left-test.true, c.loop-left.invariant.0, c.loop-left.invariant.1, asked.table);
         depth = omega arith;
         factor = inner-most _ _ asked.factor bound _ c.if-more-gt-MOST_ITEMS.false;
         items = c.if-more-gt-MOST_ITEMS.false;
@@ -58,25 +58,16 @@ size_items-w-requires t c =
       },
     )
 
-pub enum_known-w : goal.enum_known-w
-enum_known-w t c = search sizing
-
-pub returns-in_default : goal.returns-in_default
-returns-in_default t c = search sizing
-
 pub overflow_sub-left-in-loop-left : goal.overflow_sub-left-in-loop-left
 overflow_sub-left-in-loop-left t c = search sizing
 
-pub smaller-passed-requires : goal.smaller-passed-requires
-smaller-passed-requires t c = search sizing
-
 pub overflow_add-passed : goal.overflow_add-passed
 overflow_add-passed t c =
-    omega (arith, c.smaller-passed.ensures, c.loop-left-test.true, c.loop-left.invariant.0, c.loop-left.invariant.1, c.ranges.count, c.ranges.at, c.requires.table)
+    omega (arith, c.min-passed.ensures, c.loop-left-test.true, c.loop-left.invariant.0, c.loop-left.invariant.1, c.ranges.count, c.ranges.at, c.requires.table)
 
 pub overflow_add-i-in-loop-left : goal.overflow_add-i-in-loop-left
 overflow_add-i-in-loop-left t c =
-    omega (arith, c.smaller-passed.ensures, c.loop-left-test.true, c.loop-left.invariant.0, c.loop-left.invariant.1, c.ranges.count, c.ranges.at, c.requires.table)
+    omega (arith, c.min-passed.ensures, c.loop-left-test.true, c.loop-left.invariant.0, c.loop-left.invariant.1, c.ranges.count, c.ranges.at, c.requires.table)
 
 pub overflow_sub-left-in-loop-left-2 : goal.overflow_sub-left-in-loop-left-2
 overflow_sub-left-in-loop-left-2 t c = search sizing
@@ -89,15 +80,20 @@ loop-left-preserved t c =
     let all = c.loop-left.invariant.4 in
     let some = c.loop-left-test.true in
     let o = c.own_at-o.ensures.0 in
-    let opened = c.smaller-body.ensures in
-    let walked = c.size_items-w.ensures in
-    let within = c.in-Within.is in (
-      omega (arith, c.smaller-passed.ensures, c.loop-left-test.true, c.loop-left.invariant.0, c.loop-left.invariant.1, c.ranges.count, c.ranges.at, c.requires.table),
-      omega (arith, c.smaller-passed.ensures, c.loop-left-test.true, c.loop-left.invariant.0, c.loop-left.invariant.1, c.ranges.count, c.ranges.at, c.requires.table),
+    let opened = c.min-body.ensures in
+    let walked = c.size_items.ensures in
+    let within = c.in_ok-w.was in (
+      omega (arith, c.min-passed.ensures, c.loop-left-test.true, c.loop-left.invariant.0, c.loop-left.invariant.1, c.ranges.count, c.ranges.at, c.requires.table),
+      omega (arith, c.min-passed.ensures, c.loop-left-test.true, c.loop-left.invariant.0, c.loop-left.invariant.1, c.ranges.count, c.ranges.at, c.requires.table),
       size_few _ _ _ _ _ _ _ _ all some _ o _ opened _ walked _ _ within,
       size-fewer _ _ _ _ _ _ _ _ all some _ o _ opened _ walked _ _ within,
-      size_step _ _ _ _ _ _ _ _ all some _ o _ opened _ walked _ _ within _ c.smaller-passed.ensures,
+      size_step _ _ _ _ _ _ _ _ all some _ o _ opened _ walked _ _ within _ c.min-passed.ensures,
     )
 
 pub returns : goal.returns
 returns t c = search sizing
+
+pub returns-in_err-w : goal.returns-in_err-w
+returns-in_err-w t c =
+    let e : c.from_residual.result ≡ None = search rules in
+    search (sizing, e, c.in_err-w.was)

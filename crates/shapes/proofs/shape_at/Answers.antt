@@ -13,32 +13,17 @@ offset_bounds-words-at c = search rules
 pub bounds-words-at : goal.bounds-words-at
 bounds-words-at c = search rules
 
-pub wide-kind-requires : goal.wide-kind-requires
-wide-kind-requires c = search rules
-
-pub overflow_add-at : goal.overflow_add-at
-overflow_add-at c = search rules
-
 pub offset_bounds-words-at-2 : goal.offset_bounds-words-at-2
 offset_bounds-words-at-2 c = search rules
 
 pub bounds-words-at-2 : goal.bounds-words-at-2
 bounds-words-at-2 c = search rules
 
-pub wide-last-requires : goal.wide-last-requires
-wide-last-requires c = search rules
-
-pub overflow_add-at-2 : goal.overflow_add-at-2
-overflow_add-at-2 c = search rules
-
 pub offset_bounds-words-at-3 : goal.offset_bounds-words-at-3
 offset_bounds-words-at-3 c = search rules
 
 pub bounds-words-at-3 : goal.bounds-words-at-3
 bounds-words-at-3 c = search rules
-
-pub wide-times-requires : goal.wide-times-requires
-wide-times-requires c = search rules
 
 pub returns : goal.returns
 returns c = search reading

@@ -6,20 +6,14 @@ use Rattle.unfolder.proofs.unfold.Goals as goal
 pub returns-then-room-lt-LONGEST_SCORE : goal.returns-then-room-lt-LONGEST_SCORE
 returns-then-room-lt-LONGEST_SCORE c = search calls
 
-pub check_extended-found-requires : goal.check_extended-found-requires
-check_extended-found-requires c = search calls
-
 pub measure-requires : goal.measure-requires
 measure-requires c = search calls
-
-pub enum_known-found : goal.enum_known-found
-enum_known-found c = search calls
 
 pub shape_of-room : goal.shape_of-room
 shape_of-room c = search calls
 
-pub returns-in-Right : goal.returns-in-Right
-returns-in-Right c = search calls
+pub returns : goal.returns
+returns c = search calls
 
-pub returns-in-Wrong : goal.returns-in-Wrong
-returns-in-Wrong c = search calls
+pub returns-in-Err : goal.returns-in-Err
+returns-in-Err c = search calls

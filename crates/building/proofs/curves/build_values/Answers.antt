@@ -13,17 +13,8 @@ offset_bounds-numbers-first c = search valuing
 pub bounds-numbers-first : goal.bounds-numbers-first
 bounds-numbers-first c = search valuing
 
-pub wide-n-requires : goal.wide-n-requires
-wide-n-requires c = search valuing
-
 pub put_send-at-requires : goal.put_send-at-requires
 put_send-at-requires c = search valuing
-
-pub overflow_add-p : goal.overflow_add-p
-overflow_add-p c = search valuing
-
-pub loop-p-smaller : goal.loop-p-smaller
-loop-p-smaller c = search valuing
 
 pub loop-p-preserved : goal.loop-p-preserved
 loop-p-preserved c = search valuing

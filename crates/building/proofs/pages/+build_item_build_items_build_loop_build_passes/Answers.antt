@@ -213,8 +213,8 @@ build_loop-shape_of-out t c = search loop-built
 pub build_loop-returns : goal.build_loop-returns
 build_loop-returns t c = search loop-built
 
-pub build_passes-loop-p-init : goal.build_passes-loop-p-init
-build_passes-loop-p-init t c = search passes-built
+pub build_passes-loop-init : goal.build_passes-loop-init
+build_passes-loop-init t c = search passes-built
 
 pub build_passes-put_pass-next-requires : goal.build_passes-put_pass-next-requires
 build_passes-put_pass-next-requires t c = search passes-built
@@ -225,22 +225,16 @@ build_passes-overflow_add-d t c = search passes-built
 pub build_passes-build_items-at-requires : goal.build_passes-build_items-at-requires
 build_passes-build_items-at-requires t c =
     let asked = c.requires in
-    let inv = c.loop-p.invariant in
+    let inv = c.loop.invariant in
     let put = c.put_pass-next.ensures in
-    let made = pass-made _ _ _ _ _ _ _ _ _ inv.1 c.loop-p-test.true inv.2 _ _ _ _ asked.4 put.0 put.1 in
+    let made = pass-made _ _ _ _ _ _ _ _ _ inv.1 c.loop-test.true inv.2 _ _ _ _ asked.4 put.0 put.1 in
     (omega (arith, asked.4.flat), (asked.0, made))
 
-pub build_passes-overflow_add-p : goal.build_passes-overflow_add-p
-build_passes-overflow_add-p t c = search passes-built
-
-pub build_passes-loop-p-smaller : goal.build_passes-loop-p-smaller
-build_passes-loop-p-smaller t c = search passes-built
-
-pub build_passes-loop-p-preserved : goal.build_passes-loop-p-preserved
-build_passes-loop-p-preserved t c =
+pub build_passes-loop-preserved : goal.build_passes-loop-preserved
+build_passes-loop-preserved t c =
     let asked = c.requires in
-    let inv = c.loop-p.invariant in
-    let some = c.loop-p-test.true in
+    let inv = c.loop.invariant in
+    let some = c.loop-test.true in
     let put = c.put_pass-next.ensures in
     let body = c.build_items-at.ensures in (
       omega (arith, some),

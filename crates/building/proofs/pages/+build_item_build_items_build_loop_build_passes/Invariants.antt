@@ -33,10 +33,7 @@ decreases-build_loop l = 4 * (9 - l.d) + 1
 abbrev pub decreases-build_passes : goal.decreases-build_passes
 decreases-build_passes l = 4 * (9 - l.d)
 
-abbrev pub invariant-build_passes-loop-p : goal.invariant-build_passes-loop-p
-invariant-build_passes-loop-p l =
-    (l.p ≤ l.times) × Laid l.initial.out l.to (page_bytes (passes l.item l.period 0 l.p (unfolded (numbered_in l.file l.start l.table l.numbers l.k l.body)))) l.out l.at
-    × (l.at + item_size * ((l.times - l.p) * (1 + items (unfolded (numbered_in l.file l.start l.table l.numbers l.k l.body)))) ≤ length l.initial.out) × (l.delay ≡ delay_of 0 l.period l.p) × (l.delay < word_range)
-
-abbrev pub decreases-build_passes-loop-p : goal.decreases-build_passes-loop-p
-decreases-build_passes-loop-p l = l.times - l.p
+abbrev pub invariant-build_passes-loop : goal.invariant-build_passes-loop
+invariant-build_passes-loop l =
+    (l.counter ≤ l.times) × Laid l.initial.out l.to (page_bytes (passes l.item l.period 0 l.counter (unfolded (numbered_in l.file l.start l.table l.numbers l.k l.body)))) l.out l.at
+    × (l.at + item_size * ((l.times - l.counter) * (1 + items (unfolded (numbered_in l.file l.start l.table l.numbers l.k l.body)))) ≤ length l.initial.out) × (l.delay ≡ delay_of 0 l.period l.counter) × (l.delay < word_range)

@@ -9,8 +9,5 @@ shape_at-requires c = search tables
 pub within_of-requires : goal.within_of-requires
 within_of-requires c = search tables
 
-pub smaller-requires : goal.smaller-requires
-smaller-requires c = search tables
-
 pub returns : goal.returns
 returns c = search tables

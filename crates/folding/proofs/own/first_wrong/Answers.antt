@@ -34,12 +34,6 @@ overflow_sub-left c = search items-reached
 pub overflow_add-at : goal.overflow_add-at
 overflow_add-at c = search items-reached
 
-pub overflow_add-number : goal.overflow_add-number
-overflow_add-number c = search items-reached
-
-pub loop-number-smaller : goal.loop-number-smaller
-loop-number-smaller c = search items-reached
-
 pub loop-number-preserved : goal.loop-number-preserved
 loop-number-preserved c = search items-reached
 

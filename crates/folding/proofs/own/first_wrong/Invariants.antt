@@ -1,11 +1,7 @@
--- The invariant: the items passed are right by themselves, and the points left are those that they leave. The measure is what is left of the table.
+-- The invariant: the items passed are right by themselves, and the points left are those that they leave.
 -- Assumes nothing.
-use Prim.Native.Nat.{◌-◌}
 use Rattle.folding.proofs.OwnSteps.{Reaching}
 use Rattle.folding.proofs.own.first_wrong.Given as goal
 
 abbrev pub invariant-loop-number : goal.invariant-loop-number
 invariant-loop-number l = Reaching l.file l.c l.at l.number l.p l.left
-
-abbrev pub decreases-loop-number : goal.decreases-loop-number
-decreases-loop-number l = l.c.items - l.number

@@ -1,3 +1,6 @@
+use mathlib.Core.Path.{◌≡◌}
+use borrow.Author.Rules.{rules}
+use Rattle.std.specs.Prelude.{None}
 use Rattle.naming.proofs.EachSteps.{naming}
 use Rattle.naming.proofs.all.name_each.Goals as goal
 
@@ -10,29 +13,13 @@ offset_bounds-values-i c = search naming
 pub bounds-values-i : goal.bounds-values-i
 bounds-values-i c = search naming
 
-pub place_value-place-requires : goal.place_value-place-requires
-place_value-place-requires c = search naming
+pub place_value-requires : goal.place_value-requires
+place_value-requires c = search naming
 
-pub enum_known-place : goal.enum_known-place
-enum_known-place c = search naming
-
-pub shape_of-entries-in_default : goal.shape_of-entries-in_default
-shape_of-entries-in_default c = search naming
-
-pub shape_of-labels-in_default : goal.shape_of-labels-in_default
-shape_of-labels-in_default c = search naming
-
-pub shape_of-keys-in_default : goal.shape_of-keys-in_default
-shape_of-keys-in_default c = search naming
-
-pub shape_of-numbers-in_default : goal.shape_of-numbers-in_default
-shape_of-numbers-in_default c = search naming
-
-pub returns-in_default : goal.returns-in_default
-returns-in_default c = search naming
-
-pub narrow-requires : goal.narrow-requires
-narrow-requires c = search naming
+pub returns-in_err-place : goal.returns-in_err-place
+returns-in_err-place c =
+    let e : c.from_residual.result ≡ None = search rules in
+    search (naming, e, c.in_err-place.was)
 
 pub offset_bounds-numbers-i : goal.offset_bounds-numbers-i
 offset_bounds-numbers-i c = search naming
@@ -40,14 +27,8 @@ offset_bounds-numbers-i c = search naming
 pub bounds-numbers-i : goal.bounds-numbers-i
 bounds-numbers-i c = search naming
 
-pub overflow_add-i : goal.overflow_add-i
-overflow_add-i c = search naming
-
-pub loop-i-smaller : goal.loop-i-smaller
-loop-i-smaller c = search naming
-
 pub loop-i-preserved : goal.loop-i-preserved
-loop-i-preserved c = search naming
+loop-i-preserved c = search (naming, c.in_ok-place.was)
 
 pub shape_of-entries : goal.shape_of-entries
 shape_of-entries c = search naming

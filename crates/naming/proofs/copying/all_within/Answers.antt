@@ -22,12 +22,6 @@ overflow_add-start c = search withins
 pub returns-then-text-start : goal.returns-then-text-start
 returns-then-text-start c = search withins
 
-pub overflow_add-i : goal.overflow_add-i
-overflow_add-i c = search withins
-
-pub loop-i-smaller : goal.loop-i-smaller
-loop-i-smaller c = search withins
-
 pub loop-i-preserved : goal.loop-i-preserved
 loop-i-preserved c = search withins
 

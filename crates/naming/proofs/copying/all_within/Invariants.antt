@@ -9,6 +9,3 @@ use Rattle.naming.proofs.copying.all_within.Given as goal
 
 abbrev pub invariant-loop-i : goal.invariant-loop-i
 invariant-loop-i l = (l.i ≤ l.n) × (all_within l.text (entries_from l.entries (message_size * l.i) (l.n - l.i)) ≡ all_within l.text (entries_from l.entries 0 l.n))
-
-abbrev pub decreases-loop-i : goal.decreases-loop-i
-decreases-loop-i l = l.n - l.i

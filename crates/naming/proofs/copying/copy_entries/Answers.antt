@@ -25,12 +25,6 @@ read16-size-requires c = search copying
 pub put_entry-requires : goal.put_entry-requires
 put_entry-requires c = search copying
 
-pub overflow_add-i : goal.overflow_add-i
-overflow_add-i c = search copying
-
-pub loop-i-smaller : goal.loop-i-smaller
-loop-i-smaller c = search copying
-
 pub loop-i-preserved : goal.loop-i-preserved
 loop-i-preserved c = search copying
 

@@ -16,12 +16,6 @@ offset_bounds-keys-i c = search keys-filling
 pub bounds-keys-i : goal.bounds-keys-i
 bounds-keys-i c = search keys-filling
 
-pub overflow_add-i : goal.overflow_add-i
-overflow_add-i c = search keys-filling
-
-pub loop-i-smaller : goal.loop-i-smaller
-loop-i-smaller c = search keys-filling
-
 pub loop-i-preserved : goal.loop-i-preserved
 loop-i-preserved c =
     let a = c.args in

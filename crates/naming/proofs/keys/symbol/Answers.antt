@@ -12,9 +12,6 @@ returns-then-b-lt48 c = search symbols
 pub returns-then-b-gt57 : goal.returns-then-b-gt57
 returns-then-b-gt57 c = search symbols
 
-pub wide-requires : goal.wide-requires
-wide-requires c = search symbols
-
 pub overflow_sub-result : goal.overflow_sub-result
 overflow_sub-result c = search symbols
 

@@ -13,12 +13,6 @@ is_named-requires c = search labels
 pub returns-then-is_named : goal.returns-then-is_named
 returns-then-is_named c = search labels
 
-pub overflow_add-i : goal.overflow_add-i
-overflow_add-i c = search labels
-
-pub loop-i-smaller : goal.loop-i-smaller
-loop-i-smaller c = search labels
-
 pub loop-i-preserved : goal.loop-i-preserved
 loop-i-preserved c = search labels
 

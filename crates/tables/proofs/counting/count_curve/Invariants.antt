@@ -1,10 +1,8 @@
 -- The invariant: what was counted, and what the points left come to, is the whole count and one.
 -- Assumes nothing.
+use Prim.Native.Nat.{◌+◌, ◌-◌}
 use Rattle.tables.proofs.CurveCounts.{Counting}
 use Rattle.tables.proofs.counting.count_curve.Given as goal
 
-abbrev pub invariant-loop-left : goal.invariant-loop-left
-invariant-loop-left l = Counting l.file l.from l.points l.step l.at l.left l.n
-
-abbrev pub decreases-loop-left : goal.decreases-loop-left
-decreases-loop-left l = l.left
+abbrev pub invariant-loop : goal.invariant-loop
+invariant-loop l = Counting l.file l.from l.points l.step l.at (l.points + 1 - l.counter) l.n

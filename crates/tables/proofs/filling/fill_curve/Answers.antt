@@ -1,8 +1,8 @@
 use Rattle.tables.proofs.FillSteps.{drawing}
 use Rattle.tables.proofs.filling.fill_curve.Goals as goal
 
-pub loop-left-init : goal.loop-left-init
-loop-left-init c = search drawing
+pub loop-init : goal.loop-init
+loop-init c = search drawing
 
 pub value_at-v-requires : goal.value_at-v-requires
 value_at-v-requires c = search drawing
@@ -19,17 +19,11 @@ span_at-span-requires c = search drawing
 pub fill_span-next-requires : goal.fill_span-next-requires
 fill_span-next-requires c = search drawing
 
-pub overflow_add-at-in-loop-left : goal.overflow_add-at-in-loop-left
-overflow_add-at-in-loop-left c = search drawing
+pub overflow_add-at-in-loop : goal.overflow_add-at-in-loop
+overflow_add-at-in-loop c = search drawing
 
-pub overflow_sub-left : goal.overflow_sub-left
-overflow_sub-left c = search drawing
-
-pub loop-left-smaller : goal.loop-left-smaller
-loop-left-smaller c = search drawing
-
-pub loop-left-preserved : goal.loop-left-preserved
-loop-left-preserved c = search drawing
+pub loop-preserved : goal.loop-preserved
+loop-preserved c = search drawing
 
 pub value_at-v-requires-2 : goal.value_at-v-requires-2
 value_at-v-requires-2 c = search drawing

@@ -19,12 +19,6 @@ offset_bounds-values-n c = search spanning
 pub bounds-values-n : goal.bounds-values-n
 bounds-values-n c = search spanning
 
-pub overflow_add-j : goal.overflow_add-j
-overflow_add-j c = search spanning
-
-pub loop-j-smaller : goal.loop-j-smaller
-loop-j-smaller c = search spanning
-
 pub loop-j-preserved : goal.loop-j-preserved
 loop-j-preserved c = search spanning
 

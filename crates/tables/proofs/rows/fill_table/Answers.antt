@@ -34,12 +34,6 @@ points_of-used-requires c = search tabling
 pub overflow_add-used : goal.overflow_add-used
 overflow_add-used c = search tabling
 
-pub overflow_add-k : goal.overflow_add-k
-overflow_add-k c = search tabling
-
-pub loop-k-smaller : goal.loop-k-smaller
-loop-k-smaller c = search tabling
-
 pub loop-k-preserved : goal.loop-k-preserved
 loop-k-preserved c = search tabling
 

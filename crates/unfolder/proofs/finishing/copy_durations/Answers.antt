@@ -16,12 +16,6 @@ read32-d-requires c = search copies
 pub put32-at-requires : goal.put32-at-requires
 put32-at-requires c = search copies
 
-pub overflow_add-i-in-loop-i : goal.overflow_add-i-in-loop-i
-overflow_add-i-in-loop-i c = search copies
-
-pub loop-i-smaller : goal.loop-i-smaller
-loop-i-smaller c = search copies
-
 pub loop-i-preserved : goal.loop-i-preserved
 loop-i-preserved c = search copies
 
