@@ -1,5 +1,6 @@
 -- Small texts, worked out by hand: the byte at which each stops, and the hint of it. Each row of the table has one, and near misses have none or another.
 -- Assumes nothing.
+use Rattle.std.specs.Prelude.{Option, Some, None}
 use mathlib.Core.Path.{◌≡◌, refl}
 use mathlib.Core.List.{List, [], ◌∷◌, ◌++◌, map}
 use Prim.Native.Nat.{ℕ}
@@ -16,12 +17,12 @@ use Rattle.tokens.specs.Beats.{is_fraction, valued, fraction, beats}
 use Rattle.text.specs.Grammar.{past_word, named, entry, timed, parted, sent, opened, synchrony_at, error_at, erring, grouped, action, item, closed, line, further, deeper, shallower, after, may_end, is_over, follow, script_from, script}
 use Rattle.text.specs.Said.{Reading, unread, told, said}
 use Rattle.hints.specs.declared.Hint.{Hint}
-use Rattle.hints.specs.declared.Hint.TheVariants.{Unhinted, ByteOrderMark, Capitals, NoList, WordOrder, InnerPart, InnerEvent, Decimal, Mixed, Uneven, PastList}
+use Rattle.hints.specs.declared.Hint.TheVariants.{ByteOrderMark, Capitals, NoList, WordOrder, InnerPart, InnerEvent, Decimal, Mixed, Uneven, PastList}
 use Rattle.hints.specs.Hints.{is_one_of, group_words, all_words, lowered, all_lowered, is_capital, byte_order_mark, is_point, is_got, is_fractional, is_first, is_mark, is_decimal, is_mixed, is_uneven, hint_at, rule_hint, fault_hint}
 
 -- A text, the byte that can't be, and its hint.
 abbrev Row : Type 0
-Row = List ℕ × ℕ × Hint
+Row = List ℕ × ℕ × Option Hint
 
 abbrev text_in : Row → List ℕ
 text_in r = r.0
@@ -29,10 +30,10 @@ text_in r = r.0
 abbrev stop_in : Row → Reading
 stop_in r = unread r.1
 
-abbrev hint_in : Row → Hint
+abbrev hint_in : Row → Option Hint
 hint_in r = r.2
 
-abbrev hint_of : Row → Hint
+abbrev hint_of : Row → Option Hint
 hint_of r = hint_at r.0 r.1
 
 -- Items that stand from byte 30 on.
@@ -43,22 +44,22 @@ items s = bytes_of "messages 0 \"a\" event 1 part 0 " ++ bytes_of s
 
 abbrev hinted_rows : List Row
 hinted_rows =
-    (byte_order_mark ++ bytes_of "messages", 0, ByteOrderMark)
-    ∷ (items "1 Send 0", 32, Capitals)
-    ∷ (items "1 send 0 EVENT 1", 39, Capitals)
-    ∷ (bytes_of "Messages 0 \"a\"", 0, Capitals)
-    ∷ (bytes_of "event 1", 0, NoList)
-    ∷ (bytes_of "", 0, NoList)
-    ∷ (bytes_of "# no list\n 0 \"a\"", 11, NoList)
-    ∷ (items "1 group causal tight {", 45, WordOrder)
-    ∷ (items "1 tight group {", 32, WordOrder)
-    ∷ (items "1 group { part 1 }", 40, InnerPart)
-    ∷ (items "1 group { 1 send 0 event 1", 49, InnerEvent)
-    ∷ (items "0.5 send 0", 31, Decimal)
-    ∷ (bytes_of "messages event 1,000", 16, Decimal)
-    ∷ (items "1 1/2 send 0", 32, Mixed)
-    ∷ (items "1/11 send 0", 30, Uneven)
-    ∷ (items "1 send 0 1/0 send 0", 39, Uneven)
+    (byte_order_mark ++ bytes_of "messages", 0, Some ByteOrderMark)
+    ∷ (items "1 Send 0", 32, Some Capitals)
+    ∷ (items "1 send 0 EVENT 1", 39, Some Capitals)
+    ∷ (bytes_of "Messages 0 \"a\"", 0, Some Capitals)
+    ∷ (bytes_of "event 1", 0, Some NoList)
+    ∷ (bytes_of "", 0, Some NoList)
+    ∷ (bytes_of "# no list\n 0 \"a\"", 11, Some NoList)
+    ∷ (items "1 group causal tight {", 45, Some WordOrder)
+    ∷ (items "1 tight group {", 32, Some WordOrder)
+    ∷ (items "1 group { part 1 }", 40, Some InnerPart)
+    ∷ (items "1 group { 1 send 0 event 1", 49, Some InnerEvent)
+    ∷ (items "0.5 send 0", 31, Some Decimal)
+    ∷ (bytes_of "messages event 1,000", 16, Some Decimal)
+    ∷ (items "1 1/2 send 0", 32, Some Mixed)
+    ∷ (items "1/11 send 0", 30, Some Uneven)
+    ∷ (items "1 send 0 1/0 send 0", 39, Some Uneven)
     ∷ []
 
 pub hinted-stop : map (λ r. said (text_in r)) hinted_rows ≡ map stop_in hinted_rows
@@ -74,14 +75,14 @@ hinted = refl
 -- A label without quotes; points and slashes that stand elsewhere; a byte behind a word; two spaces; a whole number that is too big; a mixed number whose fraction is at fault.
 abbrev near_rows : List Row
 near_rows =
-    (bytes_of "messages 0 Gong", 11, Unhinted)
-    ∷ (bytes_of "messages 0. \"a\"", 10, Unhinted)
-    ∷ (items "1 /2 send 0", 32, Unhinted)
-    ∷ (items "1 sendX", 36, Unhinted)
-    ∷ (items "1  1/2 send 0", 33, Unhinted)
-    ∷ (items "852177 send 0", 30, Unhinted)
-    ∷ (items "1 send", 36, Unhinted)
-    ∷ (items "1 1/11 send 0", 32, Uneven)
+    (bytes_of "messages 0 Gong", 11, None)
+    ∷ (bytes_of "messages 0. \"a\"", 10, None)
+    ∷ (items "1 /2 send 0", 32, None)
+    ∷ (items "1 sendX", 36, None)
+    ∷ (items "1  1/2 send 0", 33, None)
+    ∷ (items "852177 send 0", 30, None)
+    ∷ (items "1 send", 36, None)
+    ∷ (items "1 1/11 send 0", 32, Some Uneven)
     ∷ []
 
 pub near-stop : map (λ r. said (text_in r)) near_rows ≡ map stop_in near_rows
@@ -95,6 +96,6 @@ near = refl
 -- ---- what the file check refuses
 
 pub faults-hinted : map fault_hint (BadItem rule.Message 36 ∷ BadItem rule.Delay 36 ∷ BadItem rule.Actions 36 ∷ BadMessage 36 ∷ FileShort ∷ NoMessage ∷ [])
-    ≡ PastList ∷ Unhinted ∷ Unhinted ∷ Unhinted ∷ Unhinted ∷ Unhinted ∷ []
+    ≡ Some PastList ∷ None ∷ None ∷ None ∷ None ∷ None ∷ []
 unfolding rule_hint fault_hint
 faults-hinted = refl

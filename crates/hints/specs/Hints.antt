@@ -1,5 +1,5 @@
 -- Hints: what a common mistake in a text looks like, and what is told of it. A refusal has at most one.
-use Rattle.std.specs.Prelude.{ℕ, ◌+◌, ◌-◌, Bool, true, false, not, List, [], ◌∷◌, eqb, leb, length, take, drop, get_or}
+use Rattle.std.specs.Prelude.{ℕ, ◌+◌, ◌-◌, Bool, true, false, not, List, [], ◌∷◌, eqb, leb, length, take, drop, get_or, Option, Some, None}
 use Rattle.base.specs.Tests.{pick, every, one_of, between}
 use Rattle.ascii.specs.Text.{bytes_of}
 use Rattle.ascii.specs.Words.{space, begins}
@@ -13,22 +13,22 @@ use Rattle.tokens.specs.Tokens.{Read, got, stop, left_by, blanks, is_word, numbe
 use Rattle.tokens.specs.Beats.{field, beats}
 use Rattle.text.specs.Words.{messages_word, event_word, part_word, send_word, group_word, loose_word, tight_word, local_word, global_word, partial_word, causal_word}
 use Rattle.hints.specs.declared.Hint.{Hint}
-use Rattle.hints.specs.declared.Hint.TheVariants.{Unhinted, ByteOrderMark, Capitals, NoList, WordOrder, InnerPart, InnerEvent, Decimal, Mixed, Uneven, PastList}
+use Rattle.hints.specs.declared.Hint.TheVariants.{ByteOrderMark, Capitals, NoList, WordOrder, InnerPart, InnerEvent, Decimal, Mixed, Uneven, PastList}
 
 -- ---- the table: what is told
 
-unfoldable pub hint_words : Hint → List ℕ
-hint_words Unhinted = []
-hint_words ByteOrderMark = bytes_of "; hint: the text begins with a byte order mark, save it without one"
-hint_words Capitals = bytes_of "; hint: words are written in small letters"
-hint_words NoList = bytes_of "; hint: a text begins with the word messages, also where it has none"
-hint_words WordOrder = bytes_of "; hint: group, then loose or tight, then local, global, partial or causal, each at most once"
-hint_words InnerPart = bytes_of "; hint: a group is in one part, and part stands outside of it, behind an event; is a } missing?"
-hint_words InnerEvent = bytes_of "; hint: event stands outside of groups; is a } missing?"
-hint_words Decimal = bytes_of "; hint: beats are a whole number or a fraction, 3/2 for 1.5 and 1000 for 1,000"
-hint_words Mixed = bytes_of "; hint: beats are one number or one fraction, 3/2 for 1 1/2"
-hint_words Uneven = bytes_of "; hint: a beat has 5,040 grains, and a fraction must be a whole number of them"
-hint_words PastList = bytes_of "; hint: a send names a message by its number in the list, where the first is 0"
+unfoldable pub hint_words : Option Hint → List ℕ
+hint_words None = []
+hint_words (Some ByteOrderMark) = bytes_of "; hint: the text begins with a byte order mark, save it without one"
+hint_words (Some Capitals) = bytes_of "; hint: words are written in small letters"
+hint_words (Some NoList) = bytes_of "; hint: a text begins with the word messages, also where it has none"
+hint_words (Some WordOrder) = bytes_of "; hint: group, then loose or tight, then local, global, partial or causal, each at most once"
+hint_words (Some InnerPart) = bytes_of "; hint: a group is in one part, and part stands outside of it, behind an event; is a } missing?"
+hint_words (Some InnerEvent) = bytes_of "; hint: event stands outside of groups; is a } missing?"
+hint_words (Some Decimal) = bytes_of "; hint: beats are a whole number or a fraction, 3/2 for 1.5 and 1000 for 1,000"
+hint_words (Some Mixed) = bytes_of "; hint: beats are one number or one fraction, 3/2 for 1 1/2"
+hint_words (Some Uneven) = bytes_of "; hint: a beat has 5,040 grains, and a fraction must be a whole number of them"
+hint_words (Some PastList) = bytes_of "; hint: a send names a message by its number in the list, where the first is 0"
 
 -- Room for any of them.
 abbrev pub hint_room : ℕ
@@ -115,37 +115,37 @@ unfoldable pub is_uneven : List ℕ → Bool
 is_uneven bs = every (is_fractional bs ∷ not (is_got (beats bs)) ∷ [])
 
 -- The hint of a text's own fault at this byte: the first row that fits.
-unfoldable pub hint_at : (text : List ℕ) → (at : ℕ) → Hint
+unfoldable pub hint_at : (text : List ℕ) → (at : ℕ) → Option Hint
 hint_at t at =
-    pick (is_mark t at) ByteOrderMark
-    (pick (is_capital (drop at t)) Capitals
-    (pick (is_first t at) NoList
-    (pick (is_one_of group_words (drop at t)) WordOrder
-    (pick (is_word part_word (drop at t)) InnerPart
-    (pick (is_word event_word (drop at t)) InnerEvent
-    (pick (is_decimal t at) Decimal
-    (pick (is_mixed t at) Mixed
-    (pick (is_uneven (drop at t)) Uneven Unhinted))))))))
+    pick (is_mark t at) (Some ByteOrderMark)
+    (pick (is_capital (drop at t)) (Some Capitals)
+    (pick (is_first t at) (Some NoList)
+    (pick (is_one_of group_words (drop at t)) (Some WordOrder)
+    (pick (is_word part_word (drop at t)) (Some InnerPart)
+    (pick (is_word event_word (drop at t)) (Some InnerEvent)
+    (pick (is_decimal t at) (Some Decimal)
+    (pick (is_mixed t at) (Some Mixed)
+    (pick (is_uneven (drop at t)) (Some Uneven) None))))))))
 
 -- The hint of what the file check refuses: "a message number past the list".
-unfoldable pub rule_hint : ItemRule → Hint
-rule_hint rule.Kind = Unhinted
-rule_hint rule.Synchrony = Unhinted
-rule_hint rule.ErrorWord = Unhinted
-rule_hint rule.Part = Unhinted
-rule_hint rule.Delay = Unhinted
-rule_hint rule.Event = Unhinted
-rule_hint rule.Nesting = Unhinted
-rule_hint rule.Message = PastList
-rule_hint rule.Actions = Unhinted
+unfoldable pub rule_hint : ItemRule → Option Hint
+rule_hint rule.Kind = None
+rule_hint rule.Synchrony = None
+rule_hint rule.ErrorWord = None
+rule_hint rule.Part = None
+rule_hint rule.Delay = None
+rule_hint rule.Event = None
+rule_hint rule.Nesting = None
+rule_hint rule.Message = Some PastList
+rule_hint rule.Actions = None
 
-unfoldable pub fault_hint : Fault → Hint
-fault_hint FileShort = Unhinted
-fault_hint (BadCount at) = Unhinted
-fault_hint (BadOffset at) = Unhinted
-fault_hint BadLength = Unhinted
-fault_hint (BadEvent at) = Unhinted
+unfoldable pub fault_hint : Fault → Option Hint
+fault_hint FileShort = None
+fault_hint (BadCount at) = None
+fault_hint (BadOffset at) = None
+fault_hint BadLength = None
+fault_hint (BadEvent at) = None
 fault_hint (BadItem r at) = rule_hint r
-fault_hint (BadMessage at) = Unhinted
-fault_hint TextLeft = Unhinted
-fault_hint NoMessage = Unhinted
+fault_hint (BadMessage at) = None
+fault_hint TextLeft = None
+fault_hint NoMessage = None

@@ -10,10 +10,9 @@ mod marks;
 mod table;
 mod words;
 
-// A row of the table of hints; a refusal has at most one.
+// A row of the table of hints; a refusal has one or none.
 #[derive(Clone, Copy)]
 pub enum Hint {
-    Unhinted,
     ByteOrderMark,
     Capitals,
     NoList,

@@ -1,18 +1,17 @@
 // The table of hints, row by row: what is told.
-ghost use Rattle.std.specs.Prelude.{◌+◌, ◌≤◌, length};
+ghost use Rattle.std.specs.Prelude.{◌+◌, ◌≤◌, length, Some};
 ghost use Rattle.ascii.specs.Laying.{Laid};
 ghost use Rattle.hints.specs.Hints.{hint_words, hint_room};
 
 use crate::Hint;
 use ascii::put_bytes;
 
-// The words of a hint behind the first `at` bytes, which stay. Answers where the next byte goes.
-pub fn put_hint(out: &mut [u8], at: usize, h: Hint) -> usize
+// The words of this row behind the first `at` bytes, which stay. Answers where the next byte goes.
+fn put_row(out: &mut [u8], at: usize, h: Hint) -> usize
     requires { at + hint_room ≤ length out.old }
-    ensures { Laid out.old at (hint_words h) out.new result × (result ≤ at + hint_room) }
+    ensures { Laid out.old at (hint_words (Some h)) out.new result × (result ≤ at + hint_room) }
 {
     match h {
-        Hint::Unhinted => at,
         Hint::ByteOrderMark => put_bytes(
             out,
             at,
@@ -59,5 +58,16 @@ pub fn put_hint(out: &mut [u8], at: usize, h: Hint) -> usize
             at,
             b"; hint: a send names a message by its number in the list, where the first is 0",
         ),
+    }
+}
+
+// The words of a hint, where there is one.
+pub fn put_hint(out: &mut [u8], at: usize, h: Option<Hint>) -> usize
+    requires { at + hint_room ≤ length out.old }
+    ensures { Laid out.old at (hint_words h) out.new result × (result ≤ at + hint_room) }
+{
+    match h {
+        Some(row) => put_row(out, at, row),
+        None => at,
     }
 }

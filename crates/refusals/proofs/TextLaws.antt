@@ -1,6 +1,6 @@
 -- The lines of a refused text: name, numbers and words, laid one behind the other.
 -- Assumes nothing.
-use Rattle.std.specs.Prelude.{Result, Err}
+use Rattle.std.specs.Prelude.{Result, Err, Option, None}
 use mathlib.Core.Path.{◌≡◌}
 use mathlib.Core.List.{List, [], ◌∷◌, ◌++◌}
 use Prim.Native.Nat.{ℕ}
@@ -20,7 +20,6 @@ use Rattle.text.specs.declared.TextReply.{TextReply}
 use Rattle.text.specs.Replies.{transcript_row}
 use Rattle.tokens.specs.declared.Place.{Place}
 use Rattle.hints.specs.declared.Hint.{Hint}
-use Rattle.hints.specs.declared.Hint.TheVariants.{Unhinted}
 use Rattle.hints.specs.Hints.{hint_words}
 use Rattle.wording.specs.Words.{refusal_words, transcript_words}
 use Rattle.contents.specs.declared.entries.Entry.{Entry}
@@ -39,7 +38,7 @@ module _ (o m₁ m₂ n : List ℕ) (at a b r : ℕ) where
   unfolding unmade_words
   lay-unmade c x row entry h e p q s = rw (← h, ← e) (three _ _ _ p q s)
 
-  pub lay-refused-file : (c : Counts) (x : Refusal) (h : Hint) → Laid o at (refused_number x) m₁ a → Laid m₁ a (unmade_words c x) m₂ b → Laid m₂ b (refused_end x h) n r → Laid o at (refused_file c x h) n r
+  pub lay-refused-file : (c : Counts) (x : Refusal) (h : Option Hint) → Laid o at (refused_number x) m₁ a → Laid m₁ a (unmade_words c x) m₂ b → Laid m₂ b (refused_end x h) n r → Laid o at (refused_file c x h) n r
   unfolding refused_file
   lay-refused-file c x h p q s = three _ _ _ p q s
 
@@ -48,11 +47,11 @@ module _ (o m₁ m₂ m₃ n : List ℕ) (at a b d r : ℕ) where
   four : (w x y z : List ℕ) → Laid o at w m₁ a → Laid m₁ a x m₂ b → Laid m₂ b y m₃ d → Laid m₃ d z n r → Laid o at (w ++ (x ++ (y ++ z))) n r
   four w x y z p q s u = laid-join o m₁ n _ _ at a r p (three m₁ m₂ m₃ n a b d r x y z q s u)
 
-  pub lay-told-end : (t : Result ℕ TextError) (h : Hint) → Laid o at (bytes_of ": ") m₁ a → Laid m₁ a (transcript_words t) m₂ b → Laid m₂ b (hint_words h) m₃ d → Laid m₃ d (newline ∷ []) n r → Laid o at (told_end t h) n r
+  pub lay-told-end : (t : Result ℕ TextError) (h : Option Hint) → Laid o at (bytes_of ": ") m₁ a → Laid m₁ a (transcript_words t) m₂ b → Laid m₂ b (hint_words h) m₃ d → Laid m₃ d (newline ∷ []) n r → Laid o at (told_end t h) n r
   unfolding told_end
   lay-told-end t h p q s u = four _ _ _ _ p q s u
 
-  pub lay-end : (x : Refusal) (h : Hint) → Laid o at (bytes_of ": ") m₁ a → Laid m₁ a (refusal_words x) m₂ b → Laid m₂ b (hint_words h) m₃ d → Laid m₃ d (newline ∷ []) n r → Laid o at (refused_end x h) n r
+  pub lay-end : (x : Refusal) (h : Option Hint) → Laid o at (bytes_of ": ") m₁ a → Laid m₁ a (refusal_words x) m₂ b → Laid m₂ b (hint_words h) m₃ d → Laid m₃ d (newline ∷ []) n r → Laid o at (refused_end x h) n r
   unfolding refused_end
   lay-end x h p q s u = four _ _ _ _ p q s u
 
@@ -60,7 +59,7 @@ pub lay-spot : (o m₁ m₂ n name : List ℕ) (a b r l c : ℕ) → Laid o 0 na
 unfolding spot_words
 lay-spot o m₁ m₂ n name a b r l c p q s = three o m₁ m₂ n 0 a b r _ _ _ p q s
 
-pub lay-told : (o m n : List ℕ) (at a r : ℕ) (t : Result ℕ TextError) (h : Hint) (row : TextReply) → row ≡ transcript_row t → Laid o at (bytes_of ": refused " ++ decimal row.number) m a
+pub lay-told : (o m n : List ℕ) (at a r : ℕ) (t : Result ℕ TextError) (h : Option Hint) (row : TextReply) → row ≡ transcript_row t → Laid o at (bytes_of ": refused " ++ decimal row.number) m a
     → Laid m a (told_end t h) n r → Laid o at (told_words t h) n r
 unfolding told_words
 lay-told o m n at a r t h row e p q = rw (← e) (laid-join o m n _ _ at a r p q)
@@ -70,19 +69,19 @@ unfolding refused_number
 lay-number o n at r x row e p = rw (← e) p
 
 module _ (o m n name : List ℕ) (a r : ℕ) where
-  pub lay-misread : (l c : ℕ) (h : Hint) → Laid o 0 (spot_words name l c) m a → Laid m a (told_words (Err (BadText l c)) h) n r → Laid o 0 (misread_line name l c h) n r
+  pub lay-misread : (l c : ℕ) (h : Option Hint) → Laid o 0 (spot_words name l c) m a → Laid m a (told_words (Err (BadText l c)) h) n r → Laid o 0 (misread_line name l c h) n r
   unfolding misread_line
   lay-misread l c h p q = laid-join o m n _ _ 0 a r p q
 
-  pub lay-room : Laid o 0 name m a → Laid m a (told_words (Err NoRoom) Unhinted) n r → Laid o 0 (room_line name) n r
+  pub lay-room : Laid o 0 name m a → Laid m a (told_words (Err NoRoom) None) n r → Laid o 0 (room_line name) n r
   unfolding room_line
   lay-room p q = laid-join o m n _ _ 0 a r p q
 
-  pub lay-unmade-line : (c : Counts) (x : Refusal) → Laid o 0 name m a → Laid m a (refused_file c x Unhinted) n r → Laid o 0 (unmade_line name c x) n r
+  pub lay-unmade-line : (c : Counts) (x : Refusal) → Laid o 0 name m a → Laid m a (refused_file c x None) n r → Laid o 0 (unmade_line name c x) n r
   unfolding unmade_line
   lay-unmade-line c x p q = laid-join o m n _ _ 0 a r p q
 
-  pub lay-misfit : (p : Place) (c : Counts) (x : Refusal) (h : Hint) → Laid o 0 (spot_words name p.line p.column) m a → Laid m a (refused_file c x h) n r → Laid o 0 (misfit_line name p c x h) n r
+  pub lay-misfit : (p : Place) (c : Counts) (x : Refusal) (h : Option Hint) → Laid o 0 (spot_words name p.line p.column) m a → Laid m a (refused_file c x h) n r → Laid o 0 (misfit_line name p c x h) n r
   unfolding misfit_line
   lay-misfit p c x h q s = laid-join o m n _ _ 0 a r q s
 

@@ -1,6 +1,6 @@
 -- The lines that tell people of a text that is refused: for a byte of its own, as `new.txt:12:7: refused 16: text against the grammar`; or for what its file would be, at what made
 -- the byte, as `new.txt:31:5: refused 23 at byte 120 of the file it would make: item 6, delay: an item's delay, above 5,040,000 grains (1,000 beats)`. A hint follows where there is one.
-use Rattle.std.specs.Prelude.{ℕ, List, [], ◌∷◌, ◌++◌, Result, Err}
+use Rattle.std.specs.Prelude.{ℕ, List, [], ◌∷◌, ◌++◌, Result, Err, Option, None}
 use Rattle.ascii.specs.Words.{newline}
 use Rattle.ascii.specs.Decimals.{decimal}
 use Rattle.ascii.specs.Text.{bytes_of}
@@ -12,7 +12,6 @@ use Rattle.text.specs.declared.TextError.{TextError}
 use Rattle.text.specs.declared.TextError.TheVariants.{NoRoom, BadText}
 use Rattle.text.specs.Replies.{transcript_row}
 use Rattle.hints.specs.declared.Hint.{Hint}
-use Rattle.hints.specs.declared.Hint.TheVariants.{Unhinted}
 use Rattle.hints.specs.Hints.{hint_words}
 use Rattle.wording.specs.Words.{refusal_words, transcript_words}
 use Rattle.contents.specs.Entries.{entry_at}
@@ -26,18 +25,18 @@ unfoldable pub spot_words : (name : List ℕ) → (line column : ℕ) → List �
 spot_words name l c = name ++ ((bytes_of ":" ++ decimal l) ++ (bytes_of ":" ++ decimal c))
 
 -- That it is refused, with the row's number and words, and the hint.
-unfoldable pub told_end : Result ℕ TextError → Hint → List ℕ
+unfoldable pub told_end : Result ℕ TextError → Option Hint → List ℕ
 told_end t h = bytes_of ": " ++ (transcript_words t ++ (hint_words h ++ (newline ∷ [])))
 
-unfoldable pub told_words : Result ℕ TextError → Hint → List ℕ
+unfoldable pub told_words : Result ℕ TextError → Option Hint → List ℕ
 told_words t h = (bytes_of ": refused " ++ decimal (transcript_row t).number) ++ told_end t h
 
-unfoldable pub misread_line : (name : List ℕ) → (line column : ℕ) → Hint → List ℕ
+unfoldable pub misread_line : (name : List ℕ) → (line column : ℕ) → Option Hint → List ℕ
 misread_line name l c h = spot_words name l c ++ told_words (Err (BadText l c)) h
 
 -- A room too short has no place in the text, and no hint.
 unfoldable pub room_line : (name : List ℕ) → List ℕ
-room_line name = name ++ told_words (Err NoRoom) Unhinted
+room_line name = name ++ told_words (Err NoRoom) None
 
 -- Room for each: the numbers have at most 20 digits.
 abbrev pub spot_room : ℕ
@@ -56,17 +55,17 @@ refused_number x = bytes_of ": refused " ++ decimal (refusal_row x).number
 unfoldable pub unmade_words : Counts → Refusal → List ℕ
 unmade_words c x = place_words x ++ (bytes_of " of the file it would make" ++ named_words colon (entry_at c (refusal_row x).place) x)
 
-unfoldable pub refused_end : Refusal → Hint → List ℕ
+unfoldable pub refused_end : Refusal → Option Hint → List ℕ
 refused_end x h = bytes_of ": " ++ (refusal_words x ++ (hint_words h ++ (newline ∷ [])))
 
-unfoldable pub refused_file : Counts → Refusal → Hint → List ℕ
+unfoldable pub refused_file : Counts → Refusal → Option Hint → List ℕ
 refused_file c x h = refused_number x ++ (unmade_words c x ++ refused_end x h)
 
 -- What has no line and column, as an extended score, and what has.
 unfoldable pub unmade_line : (name : List ℕ) → Counts → Refusal → List ℕ
-unmade_line name c x = name ++ refused_file c x Unhinted
+unmade_line name c x = name ++ refused_file c x None
 
-unfoldable pub misfit_line : (name : List ℕ) → Place → Counts → Refusal → Hint → List ℕ
+unfoldable pub misfit_line : (name : List ℕ) → Place → Counts → Refusal → Option Hint → List ℕ
 misfit_line name p c x h = spot_words name p.line p.column ++ refused_file c x h
 
 -- Room for the number, for the place with its entry, for an end without its hint, and for the whole behind the name or the line and column.

@@ -26,7 +26,7 @@ fn put_spot(out: &mut [u8], name: &[u8], line: usize, column: usize) -> usize
 }
 
 // The words of what came of a text, the hint, and the line's end.
-fn put_told_end(out: &mut [u8], at: usize, t: Result<usize, TextError>, h: Hint) -> usize
+fn put_told_end(out: &mut [u8], at: usize, t: Result<usize, TextError>, h: Option<Hint>) -> usize
     requires { at + end_room + hint_room ≤ length out.old }
     ensures { Laid out.old at (told_end t h) out.new result }
 {
@@ -37,7 +37,7 @@ fn put_told_end(out: &mut [u8], at: usize, t: Result<usize, TextError>, h: Hint)
 }
 
 // That it is refused, behind the first `at` bytes.
-fn put_told(out: &mut [u8], at: usize, t: Result<usize, TextError>, h: Hint) -> usize
+fn put_told(out: &mut [u8], at: usize, t: Result<usize, TextError>, h: Option<Hint>) -> usize
     requires { at + told_room ≤ length out.old }
     ensures { Laid out.old at (told_words t h) out.new result }
 {
@@ -46,7 +46,7 @@ fn put_told(out: &mut [u8], at: usize, t: Result<usize, TextError>, h: Hint) -> 
 }
 
 // The line of a text's first byte that can't be, from the front of `out`. Answers its length.
-pub fn misread_line(out: &mut [u8], name: &[u8], line: usize, column: usize, h: Hint) -> usize
+pub fn misread_line(out: &mut [u8], name: &[u8], line: usize, column: usize, h: Option<Hint>) -> usize
     requires { text_line_room + length name.now ≤ length out.old }
     ensures { Laid out.old 0 (misread_line name.now line column h) out.new result }
 {
@@ -60,7 +60,7 @@ pub fn room_line(out: &mut [u8], name: &[u8]) -> usize
     ensures { Laid out.old 0 (room_line name.now) out.new result }
 {
     let at = put_bytes(out, 0, name);
-    put_told(out, at, Err(TextError::NoRoom), Hint::Unhinted)
+    put_told(out, at, Err(TextError::NoRoom), None)
 }
 
 // The number of a refusal, behind the first `at` bytes.
@@ -82,7 +82,7 @@ fn put_unmade(out: &mut [u8], at: usize, c: Counts, x: Refusal) -> usize
 }
 
 // The words of a refusal, the hint, and the line's end.
-fn put_end(out: &mut [u8], at: usize, x: Refusal, h: Hint) -> usize
+fn put_end(out: &mut [u8], at: usize, x: Refusal, h: Option<Hint>) -> usize
     requires { at + end_room + hint_room ≤ length out.old }
     ensures { Laid out.old at (refused_end x h) out.new result }
 {
@@ -93,7 +93,7 @@ fn put_end(out: &mut [u8], at: usize, x: Refusal, h: Hint) -> usize
 }
 
 // What is told of a file that would be refused, behind the first `at` bytes: `c` has the counts of what it says.
-fn put_refused_file(out: &mut [u8], at: usize, c: Counts, x: Refusal, h: Hint) -> usize
+fn put_refused_file(out: &mut [u8], at: usize, c: Counts, x: Refusal, h: Option<Hint>) -> usize
     requires { at + refused_room ≤ length out.old }
     ensures { Laid out.old at (refused_file c x h) out.new result }
 {
@@ -108,11 +108,11 @@ pub fn unmade_line(out: &mut [u8], name: &[u8], c: Counts, x: Refusal) -> usize
     ensures { Laid out.old 0 (unmade_line name.now c x) out.new result }
 {
     let at = put_bytes(out, 0, name);
-    put_refused_file(out, at, c, x, Hint::Unhinted)
+    put_refused_file(out, at, c, x, None)
 }
 
 // The line of a text whose file would be refused for what stands at this line and column, from the front of `out`. Answers its length.
-pub fn misfit_line(out: &mut [u8], name: &[u8], p: Place, c: Counts, x: Refusal, h: Hint) -> usize
+pub fn misfit_line(out: &mut [u8], name: &[u8], p: Place, c: Counts, x: Refusal, h: Option<Hint>) -> usize
     requires { text_line_room + length name.now ≤ length out.old }
     ensures { Laid out.old 0 (misfit_line name.now p c x h) out.new result }
 {

@@ -1,6 +1,6 @@
 -- What is said, case by case.
 -- Assumes nothing.
-use Rattle.std.specs.Prelude.{Result, Ok, Err}
+use Rattle.std.specs.Prelude.{Result, Ok, Err, Option, None}
 use mathlib.Core.Path.{◌≡◌, sym, ◌∙◌}
 use mathlib.Core.List.{List}
 use Prim.Native.Nat.{ℕ, ◌≤◌}
@@ -25,7 +25,6 @@ use Rattle.script.proofs.BalancedLaws.{fault-within}
 use Rattle.refusals.specs.Line.{refusal_line}
 use Rattle.origins.specs.Origins.{place_in_text}
 use Rattle.hints.specs.declared.Hint.{Hint}
-use Rattle.hints.specs.declared.Hint.TheVariants.{Unhinted}
 use Rattle.hints.specs.Hints.{hint_at, fault_hint}
 use Rattle.refusals.specs.Texts.{misread_line, room_line, misfit_line}
 use Rattle.transcribing.specs.Told.{counts_told, counts_said, hint_told, faulty_line, unfit_line, read_line, write_line, ending_of}
@@ -47,11 +46,11 @@ module _ (text : List ℕ) (t : Result Counts ℕ) where
   pub fault-here : (at : ℕ) → t ≡ tally_of (said text) → t ≡ Err at → at ≤ length text
   fault-here at e f = fault-within text at (sym f ∙ e)
 
-  pub hint-none : (c : Counts) → t ≡ Ok c → Unhinted ≡ hint_told text t
+  pub hint-none : (c : Counts) → t ≡ Ok c → None ≡ hint_told text t
   unfolding hint_told
   hint-none c e = rw e
 
-  pub hint-fault : (at : ℕ) (r : Hint) → t ≡ Err at → r ≡ hint_at text at → r ≡ hint_told text t
+  pub hint-fault : (at : ℕ) (r : Option Hint) → t ≡ Err at → r ≡ hint_at text at → r ≡ hint_told text t
   unfolding hint_told
   hint-fault at r e p = rw e p
 
@@ -59,14 +58,14 @@ pub ruleset hinting = (fault-here, hint-none, hint-fault, rules)
 
 -- ---- lines
 
-pub lay-unfit : (o n name text : List ℕ) (r : ℕ) (c : Counts) (x : Fault) (row : Reply) (p : Place) (h : Hint) → c ≡ counts_said (said text) → row ≡ refusal_row (File x)
+pub lay-unfit : (o n name text : List ℕ) (r : ℕ) (c : Counts) (x : Fault) (row : Reply) (p : Place) (h : Option Hint) → c ≡ counts_said (said text) → row ≡ refusal_row (File x)
     → p ≡ place_in_text text row.place → h ≡ fault_hint x → Laid o 0 (misfit_line name p c (File x) h) n r → Laid o 0 (unfit_line name text x) n r
 unfolding unfit_line refusal_row
 lay-unfit o n name text r c x row p h e f g k l =
     let z : row.place ≡ (fault_row x).place = rw f in
     rw (← e, ← z, ← g, ← k) l
 
-pub lay-faulty : (o n name text : List ℕ) (r i c : ℕ) (t : Result Counts ℕ) (h : Hint) → t ≡ tally_of (said text) → h ≡ hint_told text t → Laid o 0 (misread_line name i c h) n r → Laid o 0 (faulty_line name text i c) n r
+pub lay-faulty : (o n name text : List ℕ) (r i c : ℕ) (t : Result Counts ℕ) (h : Option Hint) → t ≡ tally_of (said text) → h ≡ hint_told text t → Laid o 0 (misread_line name i c h) n r → Laid o 0 (faulty_line name text i c) n r
 unfolding faulty_line
 lay-faulty o n name text r i c t h e f l = rw (← e, ← f) l
 
@@ -89,7 +88,7 @@ module _ (o n name : List ℕ) (r : ℕ) (t : Result ℕ TextError) where
     unfolding write_line
     write-room e l = rw e l
 
-    pub write-text : (i c : ℕ) → t ≡ Err (BadText i c) → Laid o 0 (misread_line name i c Unhinted) n r → Laid o 0 (write_line name file t) n r
+    pub write-text : (i c : ℕ) → t ≡ Err (BadText i c) → Laid o 0 (misread_line name i c None) n r → Laid o 0 (write_line name file t) n r
     unfolding write_line
     write-text i c e l = rw e l
 

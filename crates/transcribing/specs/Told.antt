@@ -1,5 +1,5 @@
 -- What `read` says of a text and `write` of a file, and how they end.
-use Rattle.std.specs.Prelude.{ℕ, List, [], Result, Ok, Err}
+use Rattle.std.specs.Prelude.{ℕ, List, [], Result, Ok, Err, Option, None}
 use Rattle.contents.specs.declared.Counts.{Counts}
 use Rattle.contents.specs.declared.Fault.{Fault}
 use Rattle.contents.specs.Replies.{fault_row}
@@ -13,7 +13,6 @@ use Rattle.script.specs.Tallies.{tally_of}
 use Rattle.refusals.specs.Line.{refusal_line}
 use Rattle.origins.specs.Origins.{place_in_text}
 use Rattle.hints.specs.declared.Hint.{Hint}
-use Rattle.hints.specs.declared.Hint.TheVariants.{Unhinted}
 use Rattle.hints.specs.Hints.{hint_at, fault_hint}
 use Rattle.refusals.specs.Texts.{misread_line, room_line, misfit_line}
 
@@ -26,8 +25,8 @@ unfoldable pub counts_said : Reading → Counts
 counts_said r = counts_told (tally_of r)
 
 -- The hint of its own fault.
-unfoldable pub hint_told : (text : List ℕ) → Result Counts ℕ → Hint
-hint_told t (Ok c) = Unhinted
+unfoldable pub hint_told : (text : List ℕ) → Result Counts ℕ → Option Hint
+hint_told t (Ok c) = None
 hint_told t (Err at) = hint_at t at
 
 -- The text has a fault of its own.
@@ -48,7 +47,7 @@ read_line name t (Err (BadFile x)) = unfit_line name t x
 unfoldable pub write_line : (name file : List ℕ) → Result ℕ TextError → List ℕ
 write_line name f (Ok n) = []
 write_line name f (Err NoRoom) = room_line name
-write_line name f (Err (BadText l c)) = misread_line name l c Unhinted
+write_line name f (Err (BadText l c)) = misread_line name l c None
 write_line name f (Err (BadFile x)) = refusal_line name f (File x)
 
 -- Room for any of these lines, without the name.

@@ -41,12 +41,12 @@ fn counts_said(text: &[u8]) -> Counts
 }
 
 // The hint of a text's own fault.
-fn hint_told(text: &[u8], t: Result<Counts, usize>) -> Hint
+fn hint_told(text: &[u8], t: Result<Counts, usize>) -> Option<Hint>
     requires { t ≡ tally_of (said text.now) }
     ensures { result ≡ hint_told text.now t }
 {
     match t {
-        Ok(_) => Hint::Unhinted,
+        Ok(_) => None,
         Err(at) => hint_at(text, at),
     }
 }
@@ -98,7 +98,7 @@ pub fn write_line(out: &mut [u8], name: &[u8], file: &[u8], t: Result<usize, Tex
             name,
             line,
             column,
-            Hint::Unhinted,
+            None,
         ),
         Err(TextError::BadFile { fault }) => refusal_line(out, name, file, Refusal::File(fault)),
     }
