@@ -12,11 +12,8 @@ use Rattle.ascii.specs.Words.{space, newline}
 use Rattle.ascii.specs.Laying.{Laid}
 use Rattle.ascii.proofs.LayLaws.{laid-join, laid-nothing}
 use Rattle.menu.specs.declared.Command.{Command}
-use Rattle.menu.specs.declared.table.Marks.{Marks}
 use Rattle.menu.specs.Table.{Row, row_of, commands, count, usage_width, help_width}
-use Rattle.menu.specs.Rows.{Holds}
 use Rattle.menu.specs.Help.{padded, command_line, line_room, command_lines, help_head, help_end, help_text}
-use Rattle.menu.proofs.TableSteps.{held-usage, held-help}
 
 -- ---- a command's line
 
@@ -32,28 +29,18 @@ padded-ends o m n usage at a r l p q =
 
 pub ruleset padding = (lay-padded, padded-ends, rules)
 
-module _ {t text : List ℕ} {row : Row} {m : Marks} (h : Holds t row text m) where
-  pub usage-narrow : length (take (m.usage - m.name) (drop m.name text)) ≤ usage_width
-  usage-narrow = let l : length row.usage < usage_width = h.narrow in rw (held-usage t text row m h) (omega arith)
+module _ (row : Row) {o m₁ m₂ m₃ n : List ℕ} {at a b d r : ℕ} (p : Laid o at (bytes_of "  ") m₁ a) (q : Laid m₁ a (padded row.usage) m₂ b) (s : Laid m₂ b row.help m₃ d)
+    (u : Laid m₃ d (newline ∷ []) n r) where
+  pub lay-line : Laid o at (command_line row) n r
+  unfolding command_line
+  lay-line = laid-join o m₁ n _ _ at a r p (laid-join m₁ m₂ n _ _ a b r q (laid-join m₂ m₃ n _ _ b d r s u))
 
-  module _ {o m₁ m₂ m₃ n : List ℕ} {at a b d r : ℕ} (p : Laid o at (bytes_of "  ") m₁ a) (q : Laid m₁ a (padded (take (m.usage - m.name) (drop m.name text))) m₂ b)
-      (s : Laid m₂ b (take (m.help - m.usage) (drop m.usage text)) m₃ d) (u : Laid m₃ d (newline ∷ []) n r) where
-    pub lay-line : Laid o at (command_line row) n r
-    unfolding command_line
-    lay-line =
-        let v : Laid m₁ a (padded row.usage) m₂ b = rw (held-usage t text row m h) at q in
-        let w : Laid m₂ b row.help m₃ d = rw (held-help t text row m h) at s in
-        laid-join o m₁ n _ _ at a r p (laid-join m₁ m₂ n _ _ a b r v (laid-join m₂ m₃ n _ _ b d r w u))
-
-    pub line-ends : b ≤ a + usage_width → r ≤ at + line_room
-    line-ends l =
-        let f : a ≡ at + length (bytes_of "  ") = p.stop in
-        let g : d ≡ b + length row.help = s.stop ∙ ap (λ (x : List ℕ). b + length x) (held-help t text row m h) in
-        let e : r ≡ d + length (newline ∷ []) = u.stop in
-        let k : length row.help ≤ help_width = h.short in
-        omega arith
-
-pub ruleset lining = (usage-narrow, rules)
+  pub line-ends : b ≤ a + usage_width → length row.help ≤ help_width → r ≤ at + line_room
+  line-ends l k =
+      let f : a ≡ at + length (bytes_of "  ") = p.stop in
+      let g : d ≡ b + length row.help = s.stop in
+      let e : r ≡ d + length (newline ∷ []) = u.stop in
+      omega arith
 
 -- ---- all lines
 

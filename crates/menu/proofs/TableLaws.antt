@@ -12,12 +12,12 @@ use Rattle.ascii.specs.Words.{begins, same}
 use Rattle.ascii.proofs.WordLaws.{same_bytes}
 use Rattle.menu.specs.declared.Command.{Command}
 use Rattle.menu.specs.declared.Command.TheVariants.{Check, Play, Read, Write, Unfold, Replies, Help}
-use Rattle.menu.specs.declared.table.Lookup.TheVariants.{Known}
+use Rattle.std.specs.Prelude.{Some}
 use Rattle.menu.specs.Table.{row_of, commands, count, usage_width, named_in, command_named}
 
 -- ---- listed, each under its own name
 
-pub name-found : (c : Command) → command_named (row_of c).name ≡ Known c
+pub name-found : (c : Command) → command_named (row_of c).name ≡ Some c
 unfolding command_named named_in commands row_of same begins pick every
 name-found Check = refl
 name-found Play = refl
@@ -54,16 +54,16 @@ arguments-fit Help = (omega arith, omega arith, omega arith)
 
 -- ---- what is found is the command of that name
 
-found_in : (cs : List Command) (bytes : List ℕ) (c : Command) → named_in cs bytes ≡ Known c → (row_of c).name ≡ bytes
+found_in : (cs : List Command) (bytes : List ℕ) (c : Command) → named_in cs bytes ≡ Some c → (row_of c).name ≡ bytes
 unfolding named_in pick
 found_in [] bytes c e = let z : ◌≡◌ {A = ℕ} 0 1 = cc in absurd (omega arith)
 found_in (d ∷ cs) bytes c e = go (same (row_of d).name bytes) (found_in cs bytes c) refl e where
-  go : (t : Bool) → (named_in cs bytes ≡ Known c → (row_of c).name ≡ bytes) → same (row_of d).name bytes ≡ t → pick t (Known d) (named_in cs bytes) ≡ Known c → (row_of c).name ≡ bytes
+  go : (t : Bool) → (named_in cs bytes ≡ Some c → (row_of c).name ≡ bytes) → same (row_of d).name bytes ≡ t → pick t (Some d) (named_in cs bytes) ≡ Some c → (row_of c).name ≡ bytes
   go true r p q =
       let k : d ≡ c = cc in
       rw k at (same_bytes (row_of d).name bytes p)
   go false r p q = r q
 
-pub found_name : (bytes : List ℕ) (c : Command) → command_named bytes ≡ Known c → (row_of c).name ≡ bytes
+pub found_name : (bytes : List ℕ) (c : Command) → command_named bytes ≡ Some c → (row_of c).name ≡ bytes
 unfolding command_named
 found_name bytes c e = found_in commands bytes c e

@@ -1,12 +1,10 @@
 -- The table of commands.
-use Rattle.std.specs.Prelude.{ℕ, List, [], ◌∷◌}
+use Rattle.std.specs.Prelude.{ℕ, List, [], ◌∷◌, Option, Some, None}
 use Rattle.base.specs.Tests.{pick}
 use Rattle.ascii.specs.Text.{bytes_of}
 use Rattle.ascii.specs.Words.{same}
 use Rattle.menu.specs.declared.Command.{Command}
 use Rattle.menu.specs.declared.Command.TheVariants.{Check, Play, Read, Write, Unfold, Replies, Help}
-use Rattle.menu.specs.declared.table.Lookup.{Lookup}
-use Rattle.menu.specs.declared.table.Lookup.TheVariants.{Known, Unknown}
 
 -- A command's name, how it is used, what it is for, how many arguments it takes, how many of them, the first ones, are names of files, where each argument behind
 -- these is a number, and how many of the files are read: the others are written.
@@ -99,9 +97,9 @@ abbrev pub row_room : ℕ
 row_room = 136
 
 -- The command of these whose name the bytes are, or none.
-unfoldable pub named_in : List Command → List ℕ → Lookup
-named_in [] bytes = Unknown
-named_in (c ∷ cs) bytes = pick (same (row_of c).name bytes) (Known c) (named_in cs bytes)
+unfoldable pub named_in : List Command → List ℕ → Option Command
+named_in [] bytes = None
+named_in (c ∷ cs) bytes = pick (same (row_of c).name bytes) (Some c) (named_in cs bytes)
 
-unfoldable pub command_named : List ℕ → Lookup
+unfoldable pub command_named : List ℕ → Option Command
 command_named bytes = named_in commands bytes

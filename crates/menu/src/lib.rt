@@ -2,7 +2,7 @@
 #![tactic(auto)]
 
 pub use listing::help_text;
-pub use table::{Lookup, Marks, ROW_ROOM, find_command, put_row};
+pub use table::{Entry, entry_of, find_command};
 
 mod listing;
 mod table;

@@ -5,7 +5,7 @@ ghost use Rattle.menu.specs.Table.{row_of, usage_width};
 ghost use Rattle.menu.specs.Help.{padded, command_line, line_room, help_head, help_end, help_text, head_room, end_room, help_room};
 
 use crate::Command;
-use crate::table::{COUNT, ROW_ROOM, command_at, put_row};
+use crate::table::{COMMANDS, entry_of};
 use ascii::{NEWLINE, put_byte, put_bytes, put_spaces};
 
 // The width of the column of usages.
@@ -26,14 +26,10 @@ fn put_command_line(out: &mut [u8], at: usize, c: Command) -> usize
     requires { at + line_room ≤ length out.old }
     ensures { Laid out.old at (command_line (row_of c)) out.new result × (result ≤ at + line_room) }
 {
-    let mut text = [0; ROW_ROOM];
-    let row = put_row(&mut text, c);
-    let a = row.name;
-    let b = row.usage;
-    let e = row.help;
+    let row = entry_of(c);
     let begun = put_bytes(out, at, b"  ");
-    let used = put_padded(out, begun, &text[a..b]);
-    let helped = put_bytes(out, used, &text[b..e]);
+    let used = put_padded(out, begun, row.usage);
+    let helped = put_bytes(out, used, row.help);
     put_byte(out, helped, NEWLINE)
 }
 
@@ -63,11 +59,8 @@ pub fn help_text(out: &mut [u8]) -> usize
     ensures { Laid out.old 0 help_text out.new result }
 {
     let mut at = put_head(out);
-    let mut i = 0;
-    while i < COUNT {
-        let c = command_at(i);
+    for c in COMMANDS {
         at = put_command_line(out, at, c);
-        i += 1;
     }
     put_end(out, at)
 }

@@ -11,13 +11,13 @@ use lib.Dec.{leb, ltb}
 use lib.ListN.{length, get_or, drop}
 use lib.Seq.{get_or-drop, drop-drop}
 use borrow.Author.Tests.{ne_eqb, leb-true, leb-false}
+use Rattle.std.specs.Prelude.{Option, Some, None}
 use Rattle.base.specs.Tests.{pick, every}
 use Rattle.ascii.specs.Numbers.{is_number, value_from, value}
 use Rattle.ascii.specs.Text.{bytes_of}
 use Rattle.ascii.specs.Words.{begins, same}
+use Rattle.menu.specs.declared.Command.{Command}
 use Rattle.menu.specs.declared.Command.TheVariants.{Play}
-use Rattle.menu.specs.declared.table.Lookup.{Lookup}
-use Rattle.menu.specs.declared.table.Lookup.TheVariants.{Known, Unknown}
 use Rattle.menu.specs.Table.{row_of, commands, named_in, command_named}
 use Rattle.menu.proofs.TableLaws.{arguments-fit}
 use Rattle.orders.specs.declared.Argument.{Argument}
@@ -175,10 +175,10 @@ number-after all (i ∷ l) (suc k) z p = number-after all l k z (omega arith)
 abbrev Fresh : Order → Type 0
 Fresh o = (o.names ≡ no_names) × (o.number ≡ 0) × (o.plain ≡ false)
 
-named-fresh : (n : Lookup) → Fresh (begun_named n)
+named-fresh : (n : Option Command) → Fresh (begun_named n)
 unfolding begun_named fresh
-named-fresh (Known c) = (refl, refl, refl)
-named-fresh Unknown = (refl, refl, refl)
+named-fresh (Some c) = (refl, refl, refl)
+named-fresh None = (refl, refl, refl)
 
 begun_fresh : (a : Argument) (arg : List ℕ) → Fresh (begun_as a arg)
 unfolding begun_as fresh

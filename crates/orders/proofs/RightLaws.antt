@@ -7,6 +7,7 @@ use Prim.Native.Nat.{ℕ, suc, ◌+◌, ◌<◌, ◌≤◌}
 use native.Mathlib.Omega.{arith}
 use lib.Dec.{eqb, leb, ltb}
 use borrow.Author.Tests.{leb-false, ltb-false}
+use Rattle.std.specs.Prelude.{Option, Some, None}
 use Rattle.base.specs.Tests.{pick}
 use Rattle.ascii.specs.Numbers.{is_number, value}
 use Rattle.menu.specs.declared.Command.{Command}
@@ -16,8 +17,6 @@ use Rattle.orders.specs.declared.Usage.{Usage}
 use Rattle.orders.specs.declared.Usage.TheVariants.{Right, TooFew, TooMany, NoNumber, InputTwice}
 use Rattle.orders.specs.declared.Names.{Names}
 use Rattle.orders.specs.declared.Order.{Order}
-use Rattle.menu.specs.declared.table.Lookup.{Lookup}
-use Rattle.menu.specs.declared.table.Lookup.TheVariants.{Known, Unknown}
 use Rattle.menu.specs.Table.{row_of, command_named}
 use Rattle.orders.specs.Usage.{argument_of, no_names, name_more, fresh, stopped, is_right, begun_named, begun_as, begun, named, numbered, file_taken, number_taken, name_taken, taken_plain, taken_as, taken, closed, taken_all, ordered, is_input}
 
@@ -32,10 +31,10 @@ fresh-fits : (c : Command) (u : Usage) (at : ℕ) → Fitting (fresh c u at)
 unfolding fresh no_names
 fresh-fits c u at = record { few = omega arith; single = omega arith }
 
-named-fits : (n : Lookup) → Fitting (begun_named n)
+named-fits : (n : Option Command) → Fitting (begun_named n)
 unfolding begun_named
-named-fits (Known c) = fresh-fits c _ _
-named-fits Unknown = fresh-fits _ _ _
+named-fits (Some c) = fresh-fits c _ _
+named-fits None = fresh-fits _ _ _
 
 begun-as-fits : (a : Argument) (arg : List ℕ) → Fitting (begun_as a arg)
 unfolding begun_as

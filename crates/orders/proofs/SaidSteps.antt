@@ -5,10 +5,11 @@ use mathlib.Core.List.{List, [], ◌∷◌, ◌++◌, map, map-append}
 use Prim.Native.Nat.{ℕ, ◌+◌, ◌-◌, ◌<◌, ◌≤◌}
 use native.Mathlib.Numerals.{add-one}
 use native.Mathlib.Omega.{arith}
-use lib.ListN.{length, take, drop, get_or, set, length-append, length-map, length-set}
-use lib.Seq.{take-suc, take-suc-set, drop-set-lt, get_or-drop, drop-drop, length-take-le}
+use lib.ListN.{length, take, drop, get_or, set, length-append, length-drop, length-map, length-set}
+use lib.Seq.{take-suc, take-suc-set, drop-set-lt, get_or-drop, drop-drop, length-take-le, take_all, take-append_seam, drop-append_seam}
 use borrow.Author.Tests.{eq-eqb, ne_eqb, lt-ltb, le-ltb}
 use borrow.Author.Rules.{rules}
+use Rattle.std.proofs.Common.{◌⊎◌, inl, inr}
 use Rattle.base.proofs.TestLaws.{pick_true, pick-false}
 use Rattle.ascii.specs.Text.{bytes_of}
 use Rattle.ascii.specs.Words.{space, newline}
@@ -16,20 +17,17 @@ use Rattle.ascii.specs.Laying.{Laid}
 use Rattle.ascii.proofs.LayLaws.{laid-join, laid-nothing}
 use Rattle.orders.specs.declared.Usage.TheVariants.{Right, Wished, NoCommand, NoOption, TooFew, TooMany, NoNumber, InputTwice}
 use Rattle.orders.specs.declared.Order.{Order}
-use Rattle.menu.specs.declared.table.Marks.{Marks}
-use Rattle.menu.specs.Table.{Row, row_of, name_width}
-use Rattle.menu.specs.Rows.{Holds}
+use Rattle.menu.specs.Table.{Row, row_of}
 use Rattle.orders.specs.Usage.{dash}
 use Rattle.orders.specs.Said.{usage_line, usage_room, fault, fault_usage, front_room, missing, misuse_of, misuse_line, misuse_room, unshown, delete, shown_byte, shown, first_line}
-use Rattle.menu.proofs.TableSteps.{held-name, name-counted, held-usage}
 
 -- ---- the usage's line
 
-pub lay-usage : (o m₁ m₂ n t text : List ℕ) (row : Row) (m : Marks) (at a b r : ℕ) → Holds t row text m → Laid o at (bytes_of "usage: bin/poolmirror ") m₁ a
-    → Laid m₁ a (take (m.usage - m.name) (drop m.name text)) m₂ b → Laid m₂ b (newline ∷ []) n r → Laid o at (usage_line row) n r
+pub lay-usage : (o m₁ m₂ n text : List ℕ) (row : Row) (at a b r : ℕ) → text ≡ row.usage → Laid o at (bytes_of "usage: bin/poolmirror ") m₁ a → Laid m₁ a text m₂ b
+    → Laid m₂ b (newline ∷ []) n r → Laid o at (usage_line row) n r
 unfolding usage_line
-lay-usage o m₁ m₂ n t text row m at a b r h p q s =
-    let u : Laid m₁ a row.usage m₂ b = rw (held-usage t text row m h) at q in
+lay-usage o m₁ m₂ n text row at a b r e p q s =
+    let u : Laid m₁ a row.usage m₂ b = rw e at q in
     laid-join o m₁ n _ _ at a r p (laid-join m₁ m₂ n _ _ a b r u s)
 
 -- ---- what is wrong with what
@@ -52,27 +50,19 @@ usage-fits o m what words a p q =
     let z : length m ≡ length o = p.size in
     omega (arith, fault-length what words)
 
-pub lay-missing : (o n t text : List ℕ) (row : Row) (m : Marks) (r : ℕ) → Holds t row text m → Laid o 0 (fault_usage (take m.name text) (bytes_of ": an argument is missing\n") row) n r
-    → Laid o 0 (missing row) n r
+pub lay-missing : (o n text : List ℕ) (row : Row) (r : ℕ) → text ≡ row.name → Laid o 0 (fault_usage text (bytes_of ": an argument is missing\n") row) n r → Laid o 0 (missing row) n r
 unfolding missing
-lay-missing o n t text row m r h p = rw (held-name t text row m h) at p
+lay-missing o n text row r e p = rw e at p
 
-pub missing-fits : (o t text : List ℕ) (row : Row) (m : Marks) → Holds t row text m → misuse_room ≤ length o
-    → front_room + length (take m.name text) + length (bytes_of ": an argument is missing\n") + usage_room ≤ length o
-missing-fits o t text row m h p = let b : length row.name ≤ name_width = h.brief in rw (held-name t text row m h) (omega arith)
-
-pub ruleset saying = (lay-usage, lay-fault, lay-fault-usage, usage-fits, lay-missing, missing-fits, name-counted, rules)
+pub ruleset saying = (lay-usage, lay-fault, lay-fault-usage, usage-fits, lay-missing, rules)
 
 -- ---- each usage
 
 module _ (o n arg : List ℕ) (ord : Order) (r : ℕ) where
-  pub said-right : ord.usage ≡ Right → Laid o 0 (misuse_line ord arg) o 0
+  pub said-none : (ord.usage ≡ Right) ⊎ (ord.usage ≡ Wished) → Laid o 0 (misuse_line ord arg) o 0
   unfolding misuse_line misuse_of
-  said-right e = rw e (laid-nothing o 0 (omega arith))
-
-  pub said-wished : ord.usage ≡ Wished → Laid o 0 (misuse_line ord arg) o 0
-  unfolding misuse_line misuse_of
-  said-wished e = rw e (laid-nothing o 0 (omega arith))
+  said-none (inl e) = rw e (laid-nothing o 0 (omega arith))
+  said-none (inr e) = rw e (laid-nothing o 0 (omega arith))
 
   pub said-no-command : ord.usage ≡ NoCommand → Laid o 0 (fault arg (bytes_of ": no such command. bin/poolmirror help lists the commands.\n")) n r → Laid o 0 (misuse_line ord arg) n r
   unfolding misuse_line misuse_of
@@ -101,7 +91,7 @@ module _ (o n arg : List ℕ) (ord : Order) (r : ℕ) where
   unfolding misuse_line misuse_of
   said-twice e p = rw e p
 
-pub ruleset misused = (said-right, said-wished, said-no-command, said-no-option, said-few, said-many, said-no-number, said-twice, rules)
+pub ruleset misused = (said-none, said-no-command, said-no-option, said-few, said-many, said-no-number, said-twice, rules)
 
 -- ---- a byte and a name as they are shown
 
@@ -112,6 +102,10 @@ shown-control b p = pick_true _ _ _ _ (lt-ltb b space p) refl
 pub shown-delete : (b : ℕ) → b ≡ delete → unshown ≡ shown_byte b
 unfolding shown_byte
 shown-delete b q = let p : space ≤ b = omega arith in pick-false _ _ _ _ (le-ltb b space p) (pick_true _ _ _ _ (eq-eqb b delete q) refl)
+
+pub shown-none : (b : ℕ) → (b < space) ⊎ (space ≤ b × b ≡ delete) → unshown ≡ shown_byte b
+shown-none b (inl p) = shown-control b p
+shown-none b (inr p) = shown-delete b p.1
 
 pub shown-itself : (b : ℕ) → space ≤ b → (b ≡ delete → ⊥) → b ≡ shown_byte b
 unfolding shown_byte
@@ -134,16 +128,19 @@ module _ (o m : List ℕ) (i : ℕ) (front : take i m ≡ map shown_byte (take i
   pub show-back : (b : ℕ) → drop (i + 1) (set m i b) ≡ drop (i + 1) o
   show-back b = drop-set-lt (i + 1) m i b (omega arith) ∙ sym (drop-drop 1 i m) ∙ ap (drop 1) back ∙ drop-drop 1 i o
 
-  pub show-end : (n : ℕ) → i ≤ n → n ≤ i → n ≤ length o → Laid o 0 (map shown_byte (take n o)) m n
-  show-end n p q l =
-      let e : i ≡ n = omega arith in
-      record {
-        front = rw e at front;
-        others = rw e at back;
-        stop = omega (arith, length-map (take n o) shown_byte, length-take-le n o l);
-        within = omega arith;
-        size = size;
-      }
+pub show-end : (o m : List ℕ) (i n : ℕ) → n ≤ length o → length m ≡ length (take n o) → length (take n o) ≤ i → take i m ≡ map shown_byte (take i (take n o))
+    → Laid o 0 (map shown_byte (take n o)) (m ++ drop n o) n
+show-end o m i n l s q front =
+    let k : length (take n o) ≡ n = length-take-le n o l in
+    let z : n ≡ length m = omega arith in
+    let e : m ≡ map shown_byte (take n o) = sym (take_all i m (omega arith)) ∙ front ∙ ap (map shown_byte) (take_all i (take n o) q) in
+    record {
+      front = ap (λ (j : ℕ). take j (m ++ drop n o)) z ∙ take-append_seam m (drop n o) ∙ e;
+      others = ap (λ (j : ℕ). drop j (m ++ drop n o)) z ∙ drop-append_seam m (drop n o);
+      stop = omega (arith, length-map (take n o) shown_byte);
+      within = omega (arith, length-append m (drop n o));
+      size = omega (arith, length-append m (drop n o), length-drop n o);
+    }
 
 pub ruleset showing = (show-start, show-front, show-back, show-end, length-set, rules)
 

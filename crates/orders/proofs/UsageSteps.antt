@@ -10,6 +10,7 @@ use borrow.Author.Rules.{rules}
 use Rattle.base.specs.Tests.{pick}
 use Rattle.base.proofs.TestLaws.{pick_true, pick-false, every-pass, every-stop, every-last, told-true, told-false}
 use Rattle.std.specs.Prelude.{Option, Some, None}
+use Rattle.std.proofs.Common.{◌⊎◌, inl, inr}
 use Rattle.ascii.specs.Numbers.{number_of}
 use Rattle.ascii.specs.Text.{bytes_of}
 use Rattle.ascii.specs.Words.{begins, same}
@@ -22,8 +23,6 @@ use Rattle.orders.specs.declared.Usage.{Usage}
 use Rattle.orders.specs.declared.Usage.TheVariants.{Right, Wished, NoCommand, NoOption, TooFew, TooMany, NoNumber, InputTwice}
 use Rattle.orders.specs.declared.Names.{Names}
 use Rattle.orders.specs.declared.Order.{Order}
-use Rattle.menu.specs.declared.table.Lookup.{Lookup}
-use Rattle.menu.specs.declared.table.Lookup.TheVariants.{Known, Unknown}
 use Rattle.menu.specs.Table.{row_of, command_named}
 use Rattle.orders.specs.Usage.{dash, argument_of, is_name, name_more, fresh, stopped, is_right, begun_named, begun_as, begun, named, numbered, file_taken, number_taken, name_taken, taken_plain, taken_as, taken, closed, is_input}
 
@@ -65,10 +64,20 @@ module _ (plain : Bool) (arg : List ℕ) (np : plain ≡ false) (d : Bool) (ed :
 
 pub ruleset reading = (behind-dashes, is_plain, is-short-wish, is-long-wish, is-input, is-dashed, is-name, rules)
 
-pub name-case : (a y : Argument) (plain : Bool) (arg : List ℕ) (r : Bool) → a ≡ argument_of plain arg → a ≡ y → r ≡ is_name y → r ≡ is_name (argument_of plain arg)
-name-case a y plain arg r ea e p = rw (← ea, e) p
+pub no-name : (a : Argument) (plain : Bool) (arg : List ℕ) → a ≡ argument_of plain arg → (a ≡ Name → ⊥) → false ≡ is_name (argument_of plain arg)
+unfolding is_name
+no-name a plain arg ea p = rw (← ea) (go a p) where
+  go : (y : Argument) → (y ≡ Name → ⊥) → false ≡ is_name y
+  go Name q = absurd (q refl)
+  go Plain q = refl
+  go Wish q = refl
+  go Dashed q = refl
 
-pub ruleset naming = (name-case, rules)
+pub is-a-name : (a : Argument) (plain : Bool) (arg : List ℕ) → a ≡ argument_of plain arg → a ≡ Name → true ≡ is_name (argument_of plain arg)
+unfolding is_name
+is-a-name a plain arg ea e = rw (← ea, e) refl
+
+pub ruleset naming = (is-a-name, no-name, rules)
 
 -- ---- one name more
 
@@ -99,49 +108,45 @@ pub ruleset adding = (more-first, more-second, more-later, named_more, numbered_
 
 -- ---- the first argument
 
-pub right-case : (u y : Usage) (r : Bool) → u ≡ y → r ≡ is_right y → r ≡ is_right u
-right-case u y r e p = rw e p
+pub right-found : (u : Usage) → u ≡ Right → true ≡ is_right u
+unfolding is_right
+right-found u e = rw e refl
 
-pub begun-known : (n : Lookup) (c : Command) (r : Order) → n ≡ Known c → r ≡ fresh c Right 0 → r ≡ begun_named n
-unfolding begun_named
-begun-known n c r e p = rw e p
-
-pub begun-unknown : (n : Lookup) (r : Order) → n ≡ Unknown → r ≡ fresh Help NoCommand 1 → r ≡ begun_named n
-unfolding begun_named
-begun-unknown n r e p = rw e p
+pub right-none : (u : Usage) → (u ≡ Right → ⊥) → false ≡ is_right u
+unfolding is_right
+right-none Right p = absurd (p refl)
+right-none Wished p = refl
+right-none NoCommand p = refl
+right-none NoOption p = refl
+right-none TooFew p = refl
+right-none TooMany p = refl
+right-none NoNumber p = refl
+right-none InputTwice p = refl
 
 module _ (arg : List ℕ) (a : Argument) (ea : a ≡ argument_of false arg) (r : Order) where
   pub begun-wish : a ≡ Wish → r ≡ fresh Help Wished 0 → r ≡ begun arg
   unfolding begun begun_as
   begun-wish e p = rw (← ea, e) p
 
-  module _ (n : Lookup) (en : n ≡ command_named arg) (er : r ≡ begun_named n) where
-    pub begun-name : a ≡ Name → r ≡ begun arg
+  module _ (n : Option Command) (en : n ≡ command_named arg) (er : r ≡ begun_named n) where
+    pub begun-found : (a ≡ Name) ⊎ ((a ≡ Plain) ⊎ (a ≡ Dashed)) → r ≡ begun arg
     unfolding begun begun_as
-    begun-name e = rw (← ea, e, ← en) er
+    begun-found (inl e) = rw (← ea, e, ← en) er
+    begun-found (inr (inl e)) = rw (← ea, e, ← en) er
+    begun-found (inr (inr e)) = rw (← ea, e, ← en) er
 
-    pub begun-plain : a ≡ Plain → r ≡ begun arg
-    unfolding begun begun_as
-    begun-plain e = rw (← ea, e, ← en) er
-
-    pub begun-dashed : a ≡ Dashed → r ≡ begun arg
-    unfolding begun begun_as
-    begun-dashed e = rw (← ea, e, ← en) er
-
-pub ruleset beginning = (right-case, begun-known, begun-unknown, begun-wish, begun-name, begun-plain, begun-dashed, rules)
+pub ruleset beginning = (right-found, right-none, begun-wish, begun-found, rules)
 
 -- ---- one argument more
 
 module _ (o : Order) (arg : List ℕ) (t : Bool) (et : t ≡ same dash arg) where
-  pub input-other : not t ≡ true → false ≡ is_input o arg
+  pub input-other : t ≡ false → t ≡ is_input o arg
   unfolding is_input
-  input-other p = every-stop _ _ (told-false t _ et p)
+  input-other p = p ∙ every-stop _ _ (sym et ∙ p)
 
-  pub input-read : (n : ℕ) → not t ≡ false → n ≡ (row_of o.command).reads → ltb o.names.count n ≡ is_input o arg
+  pub input-read : (n : ℕ) → t ≡ true → n ≡ (row_of o.command).reads → ltb o.names.count n ≡ is_input o arg
   unfolding is_input
-  input-read n p e = every-pass _ _ _ (told-true t _ et p) (every-last _ _ (rw e))
-
-pub ruleset dashed = (input-other, input-read, rules)
+  input-read n p e = every-pass _ _ _ (sym et ∙ p) (every-last _ _ (rw e))
 
 module _ (o : Order) (i : ℕ) (arg : List ℕ) (r : Order) where
   module _ (t : Bool) (et : t ≡ is_input o arg) where
@@ -185,25 +190,6 @@ pub ruleset filing = (file-twice, file-input, file-other, rules)
 pub ruleset figures = (number-none, number_read, rules)
 
 pub ruleset counting = (name-many, name-number, name-file, rules)
-
-module _ (o : Order) (i : ℕ) (a : Argument) (arg : List ℕ) (r : Order) where
-  pub as-name : a ≡ Name → r ≡ name_taken o i arg → r ≡ taken_as o i a arg
-  unfolding taken_as
-  as-name e p = rw e p
-
-  pub as_plain : a ≡ Plain → r ≡ taken_plain o → r ≡ taken_as o i a arg
-  unfolding taken_as
-  as_plain e p = rw e p
-
-  pub as-wish : a ≡ Wish → r ≡ stopped o Wished 0 → r ≡ taken_as o i a arg
-  unfolding taken_as
-  as-wish e p = rw e p
-
-  pub as-dashed : a ≡ Dashed → r ≡ stopped o NoOption i → r ≡ taken_as o i a arg
-  unfolding taken_as
-  as-dashed e p = rw e p
-
-pub ruleset taking = (as-name, as_plain, as-wish, as-dashed, rules)
 
 module _ (o : Order) (t : Bool) (et : t ≡ is_right o.usage) where
   pub take_on : (i : ℕ) (arg : List ℕ) (a : Argument) (r : Order) → t ≡ true → a ≡ argument_of o.plain arg → r ≡ taken_as o i a arg → r ≡ taken o i arg

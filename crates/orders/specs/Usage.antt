@@ -1,13 +1,11 @@
 -- The arguments, read from front to back: the first fault decides.
-use Rattle.std.specs.Prelude.{ℕ, suc, ◌+◌, Bool, true, false, List, [], ◌∷◌, eqb, leb, ltb}
+use Rattle.std.specs.Prelude.{ℕ, suc, ◌+◌, Bool, true, false, List, [], ◌∷◌, eqb, leb, ltb, Option, Some, None}
 use Rattle.base.specs.Tests.{pick, every}
 use Rattle.ascii.specs.Numbers.{is_number, value}
 use Rattle.ascii.specs.Text.{bytes_of}
 use Rattle.ascii.specs.Words.{begins, same}
 use Rattle.menu.specs.declared.Command.{Command}
 use Rattle.menu.specs.declared.Command.TheVariants.{Help}
-use Rattle.menu.specs.declared.table.Lookup.{Lookup}
-use Rattle.menu.specs.declared.table.Lookup.TheVariants.{Known, Unknown}
 use Rattle.menu.specs.Table.{row_of, command_named}
 use Rattle.orders.specs.declared.Argument.{Argument}
 use Rattle.orders.specs.declared.Argument.TheVariants.{Name, Plain, Wish, Dashed}
@@ -74,9 +72,9 @@ is_right InputTwice = false
 -- ---- the first argument
 
 -- The command that was looked up; an unknown one is a fault of argument 1.
-unfoldable pub begun_named : Lookup → Order
-begun_named (Known c) = fresh c Right 0
-begun_named Unknown = fresh Help NoCommand 1
+unfoldable pub begun_named : Option Command → Order
+begun_named (Some c) = fresh c Right 0
+begun_named None = fresh Help NoCommand 1
 
 -- A wish for help, else the command of that name. Where no command is known, it is `help`.
 unfoldable pub begun_as : Argument → List ℕ → Order

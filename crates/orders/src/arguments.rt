@@ -6,42 +6,7 @@ ghost use Rattle.orders.specs.Usage.{argument_of, is_name, name_more, fresh, sto
 
 use crate::{Argument, Names, Order, Usage};
 use ascii::{begins, read_number, same};
-use menu::{Command, Lookup, ROW_ROOM, find_command, put_row};
-
-// How many arguments the command takes at least, and at most.
-fn least(c: Command) -> usize
-    ensures { result ≡ (row_of c).least }
-{
-    let mut text = [0; ROW_ROOM];
-    let row = put_row(&mut text, c);
-    row.least
-}
-
-fn most(c: Command) -> usize
-    ensures { result ≡ (row_of c).most }
-{
-    let mut text = [0; ROW_ROOM];
-    let row = put_row(&mut text, c);
-    row.most
-}
-
-// How many of the arguments are names of files, the first ones.
-fn files(c: Command) -> usize
-    ensures { result ≡ (row_of c).files }
-{
-    let mut text = [0; ROW_ROOM];
-    let row = put_row(&mut text, c);
-    row.files
-}
-
-// How many of the files are read, the first ones.
-fn reads(c: Command) -> usize
-    ensures { result ≡ (row_of c).reads }
-{
-    let mut text = [0; ROW_ROOM];
-    let row = put_row(&mut text, c);
-    row.reads
-}
+use menu::{Command, entry_of, find_command};
 
 // What the argument is. Behind `--` each is a name.
 fn argument_of(plain: bool, arg: &[u8]) -> Argument
@@ -53,10 +18,7 @@ fn argument_of(plain: bool, arg: &[u8]) -> Argument
     if same(b"--", arg) {
         return Argument::Plain;
     }
-    if same(b"-h", arg) {
-        return Argument::Wish;
-    }
-    if same(b"--help", arg) {
+    if same(b"-h", arg) || same(b"--help", arg) {
         return Argument::Wish;
     }
     if same(b"-", arg) {
@@ -72,12 +34,7 @@ fn argument_of(plain: bool, arg: &[u8]) -> Argument
 pub fn is_name(o: Order, arg: &[u8]) -> bool
     ensures { result ≡ is_name (argument_of o.plain arg.now) }
 {
-    match argument_of(o.plain, arg) {
-        Argument::Name => true,
-        Argument::Plain => false,
-        Argument::Wish => false,
-        Argument::Dashed => false,
-    }
+    matches!(argument_of(o.plain, arg), Argument::Name)
 }
 
 // One name more, which is argument i.
@@ -85,91 +42,70 @@ fn name_more(n: Names, i: usize) -> Names
     requires { n.count < any_number }
     ensures { result ≡ name_more n i }
 {
-    if n.count == 0 {
-        return Names {
-            count: n.count + 1,
+    let count = n.count + 1;
+    match n.count {
+        0 => Names {
+            count,
             first: i,
-            second: n.second,
-        };
-    }
-    if n.count == 1 {
-        return Names {
-            count: n.count + 1,
-            first: n.first,
+            ..n
+        },
+        1 => Names {
+            count,
             second: i,
-        };
-    }
-    Names {
-        count: n.count + 1,
-        first: n.first,
-        second: n.second,
+            ..n
+        },
+        _ => Names { count, ..n },
     }
 }
 
 // An order with no names.
+#[tactic(auto, unfolding(crate::specs::Usage::fresh, crate::specs::Usage::no_names))]
 fn fresh(c: Command, u: Usage, at: usize) -> Order
     ensures { result ≡ fresh c u at }
 {
-    let n = Names {
-        count: 0,
-        first: 0,
-        second: 0,
-    };
     Order {
         command: c,
-        names: n,
+        names: Names {
+            count: 0,
+            first: 0,
+            second: 0,
+        },
         inputs: 0,
         number: 0,
         plain: false,
         usage: u,
-        at: at,
+        at,
     }
 }
 
 // The order, with what was found at an argument.
+#[tactic(auto, unfolding(crate::specs::Usage::stopped))]
 fn stopped(o: Order, u: Usage, at: usize) -> Order
     ensures { result ≡ stopped o u at }
 {
-    let c = o.command;
-    let n = o.names;
-    Order {
-        command: c,
-        names: n,
-        inputs: o.inputs,
-        number: o.number,
-        plain: o.plain,
-        usage: u,
-        at: at,
-    }
+    Order { usage: u, at, ..o }
 }
 
 // Whether nothing was found.
 fn is_right(u: Usage) -> bool
     ensures { result ≡ is_right u }
 {
-    match u {
-        Usage::Right => true,
-        Usage::Wished => false,
-        Usage::NoCommand => false,
-        Usage::NoOption => false,
-        Usage::TooFew => false,
-        Usage::TooMany => false,
-        Usage::NoNumber => false,
-        Usage::InputTwice => false,
-    }
+    matches!(u, Usage::Right)
 }
 
 // What the first argument orders, where it is no wish.
-fn begin_named(n: Lookup) -> Order
-    ensures { result ≡ begun_named n }
+#[tactic(auto, unfolding(crate::specs::Usage::begun_named))]
+fn begin_named(found: Option<Command>) -> Order
+    ensures { result ≡ begun_named found }
 {
-    match n {
-        Lookup::Known(c) => fresh(c, Usage::Right, 0),
-        Lookup::Unknown => fresh(Command::Help, Usage::NoCommand, 1),
+    match found {
+        Some(c) => fresh(c, Usage::Right, 0),
+        None => fresh(Command::Help, Usage::NoCommand, 1),
     }
 }
 
 // What no argument at all orders.
+#[tactic(auto, unfolding(crate::specs::Usage::ordered))]
 pub fn nothing() -> Order
     ensures { result ≡ ordered [] }
 {
@@ -181,10 +117,8 @@ pub fn begin(arg: &[u8]) -> Order
     ensures { result ≡ begun arg.now }
 {
     match argument_of(false, arg) {
-        Argument::Name => begin_named(find_command(arg)),
-        Argument::Plain => begin_named(find_command(arg)),
         Argument::Wish => fresh(Command::Help, Usage::Wished, 0),
-        Argument::Dashed => begin_named(find_command(arg)),
+        Argument::Name | Argument::Plain | Argument::Dashed => begin_named(find_command(arg)),
     }
 }
 
@@ -193,17 +127,10 @@ fn named(o: Order, i: usize, inputs: usize) -> Order
     requires { o.names.count < any_number }
     ensures { result ≡ named o i inputs }
 {
-    let c = o.command;
-    let n = name_more(o.names, i);
-    let u = o.usage;
     Order {
-        command: c,
-        names: n,
-        inputs: inputs,
-        number: o.number,
-        plain: o.plain,
-        usage: u,
-        at: o.at,
+        names: name_more(o.names, i),
+        inputs,
+        ..o
     }
 }
 
@@ -212,17 +139,10 @@ fn numbered(o: Order, i: usize, number: u64) -> Order
     requires { o.names.count < any_number }
     ensures { result ≡ numbered o i number }
 {
-    let c = o.command;
-    let n = name_more(o.names, i);
-    let u = o.usage;
     Order {
-        command: c,
-        names: n,
-        inputs: o.inputs,
-        number: number,
-        plain: o.plain,
-        usage: u,
-        at: o.at,
+        names: name_more(o.names, i),
+        number,
+        ..o
     }
 }
 
@@ -230,12 +150,7 @@ fn numbered(o: Order, i: usize, number: u64) -> Order
 fn is_input(o: Order, arg: &[u8]) -> bool
     ensures { result ≡ is_input o arg.now }
 {
-    let c = o.command;
-    let n = o.names;
-    if !same(b"-", arg) {
-        return false;
-    }
-    n.count < reads(c)
+    same(b"-", arg) && o.names.count < entry_of(o.command).reads
 }
 
 // The name of a file: standard input a second time is a fault.
@@ -267,36 +182,26 @@ fn take_number(o: Order, i: usize, arg: &[u8]) -> Order
 fn take_name(o: Order, i: usize, arg: &[u8]) -> Order
     ensures { result ≡ name_taken o i arg.now }
 {
-    let c = o.command;
-    let n = o.names;
-    if most(c) <= n.count {
+    let row = entry_of(o.command);
+    if row.most <= o.names.count {
         return stopped(o, Usage::TooMany, i);
     }
-    if files(c) <= n.count {
+    if row.files <= o.names.count {
         return take_number(o, i, arg);
     }
     take_file(o, i, arg)
 }
 
 // The order, where each argument from here on is a name.
+#[tactic(auto, unfolding(crate::specs::Usage::taken_plain))]
 fn take_plain(o: Order) -> Order
     ensures { result ≡ taken_plain o }
 {
-    let c = o.command;
-    let n = o.names;
-    let u = o.usage;
-    Order {
-        command: c,
-        names: n,
-        inputs: o.inputs,
-        number: o.number,
-        plain: true,
-        usage: u,
-        at: o.at,
-    }
+    Order { plain: true, ..o }
 }
 
 // One argument more, by what it is.
+#[tactic(auto, unfolding(crate::specs::Usage::taken_as))]
 fn take_as(o: Order, i: usize, a: Argument, arg: &[u8]) -> Order
     ensures { result ≡ taken_as o i a arg.now }
 {
@@ -312,8 +217,7 @@ fn take_as(o: Order, i: usize, a: Argument, arg: &[u8]) -> Order
 pub fn take(o: Order, i: usize, arg: &[u8]) -> Order
     ensures { result ≡ taken o i arg.now }
 {
-    let u = o.usage;
-    if is_right(u) {
+    if is_right(o.usage) {
         return take_as(o, i, argument_of(o.plain, arg), arg);
     }
     o
@@ -323,14 +227,11 @@ pub fn take(o: Order, i: usize, arg: &[u8]) -> Order
 pub fn close(o: Order) -> Order
     ensures { result ≡ closed o }
 {
-    let u = o.usage;
-    let c = o.command;
-    let n = o.names;
-    if is_right(u) {
-        if n.count < least(c) {
-            return stopped(o, Usage::TooFew, 1);
-        }
+    if !is_right(o.usage) {
         return o;
+    }
+    if o.names.count < entry_of(o.command).least {
+        return stopped(o, Usage::TooFew, 1);
     }
     o
 }

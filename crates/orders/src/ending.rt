@@ -10,14 +10,10 @@ pub fn ending_of(u: Usage, done: Ending) -> Ending
     ensures { result ≡ ending_of u done }
 {
     match u {
-        Usage::Right => done,
-        Usage::Wished => done,
+        Usage::Right | Usage::Wished => done,
         Usage::NoCommand => Ending::Failed,
-        Usage::NoOption => Ending::Failed,
-        Usage::TooFew => Ending::Failed,
-        Usage::TooMany => Ending::Failed,
-        Usage::NoNumber => Ending::Failed,
-        Usage::InputTwice => Ending::Failed,
+        Usage::NoOption | Usage::TooFew | Usage::TooMany => Ending::Failed,
+        Usage::NoNumber | Usage::InputTwice => Ending::Failed,
     }
 }
 

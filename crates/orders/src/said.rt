@@ -6,7 +6,7 @@ ghost use Rattle.orders.specs.Said.{usage_line, usage_room, front_room, fault, f
 
 use crate::{Order, Usage};
 use ascii::{NEWLINE, put_byte, put_bytes};
-use menu::{Command, ROW_ROOM, put_row};
+use menu::{Command, entry_of};
 
 // What is shown in place of a byte that is not.
 const UNSHOWN: u8 = b'?';
@@ -21,12 +21,8 @@ fn put_usage_line(out: &mut [u8], at: usize, c: Command) -> usize
     requires { at + usage_room ≤ length out.old }
     ensures { Laid out.old at (usage_line (row_of c)) out.new result }
 {
-    let mut text = [0; ROW_ROOM];
-    let row = put_row(&mut text, c);
-    let a = row.name;
-    let b = row.usage;
     let at = put_bytes(out, at, b"usage: bin/poolmirror ");
-    let used = put_bytes(out, at, &text[a..b]);
+    let used = put_bytes(out, at, entry_of(c).usage);
     put_byte(out, used, NEWLINE)
 }
 
@@ -54,10 +50,7 @@ fn put_missing(out: &mut [u8], c: Command) -> usize
     requires { misuse_room ≤ length out.old }
     ensures { Laid out.old 0 (missing (row_of c)) out.new result }
 {
-    let mut text = [0; ROW_ROOM];
-    let row = put_row(&mut text, c);
-    let n = row.name;
-    put_fault_usage(out, &text[..n], b": an argument is missing\n", c)
+    put_fault_usage(out, entry_of(c).name, b": an argument is missing\n", c)
 }
 
 // What is told of a wrong usage, from the front of `out`; `arg` is the argument at fault. Answers its length.
@@ -66,10 +59,8 @@ pub fn misuse_line(out: &mut [u8], o: Order, arg: &[u8]) -> usize
     ensures { Laid out.old 0 (misuse_line o arg.now) out.new result }
 {
     let c = o.command;
-    let u = o.usage;
-    match u {
-        Usage::Right => 0,
-        Usage::Wished => 0,
+    match o.usage {
+        Usage::Right | Usage::Wished => 0,
         Usage::NoCommand => put_fault(
             out,
             arg,
@@ -102,10 +93,7 @@ pub fn misuse_line(out: &mut [u8], o: Order, arg: &[u8]) -> usize
 fn shown_byte(b: u8) -> u8
     ensures { result ≡ shown_byte b }
 {
-    if b < FIRST_SHOWN {
-        return UNSHOWN;
-    }
-    if b == DELETE {
+    if b < FIRST_SHOWN || b == DELETE {
         return UNSHOWN;
     }
     b
@@ -116,11 +104,8 @@ fn show_bytes(name: &mut [u8], n: usize) -> usize
     requires { n ≤ length name.old }
     ensures { Laid name.old 0 (map shown_byte (take n name.old)) name.new result }
 {
-    let mut i = 0;
-    while i < n {
-        let b = name[i];
-        name[i] = shown_byte(b);
-        i += 1;
+    for b in &mut name[..n] {
+        *b = shown_byte(*b);
     }
     n
 }

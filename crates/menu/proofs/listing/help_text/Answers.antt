@@ -1,35 +1,19 @@
+-- Each turn lays one line more.
+-- Assumes nothing.
 use borrow.Author.Rules.{rules}
+use Rattle.menu.specs.Table.{commands}
+use Rattle.menu.proofs.TableSteps.{listed-at}
 use Rattle.menu.proofs.HelpSteps.{list_on, listing}
 use Rattle.menu.proofs.listing.help_text.Goals as goal
 
-pub put_head-at-requires : goal.put_head-at-requires
-put_head-at-requires c = search listing
+pub loop-c-init : goal.loop-c-init
+loop-c-init c = search listing
 
-pub loop-i-init : goal.loop-i-init
-loop-i-init c = search listing
-
-pub command_at-c-requires : goal.command_at-c-requires
-command_at-c-requires c = search listing
-
-pub put_command_line-at-requires : goal.put_command_line-at-requires
-put_command_line-at-requires c = search listing
-
-pub overflow_add-i : goal.overflow_add-i
-overflow_add-i c = search listing
-
-pub loop-i-smaller : goal.loop-i-smaller
-loop-i-smaller c = search listing
-
-pub loop-i-preserved : goal.loop-i-preserved
-loop-i-preserved c =
-    let loop = c.loop-i in
-    (search rules, search rules, list_on loop.i c.command_at-c.ensures loop.invariant.2 c.put_command_line-at.ensures.0)
-
-pub put_end-requires : goal.put_end-requires
-put_end-requires c = search listing
-
-pub shape_of-out : goal.shape_of-out
-shape_of-out c = search listing
+pub loop-c-preserved : goal.loop-c-preserved
+unfolding commands
+loop-c-preserved c =
+    let loop = c.loop-c in
+    (search rules, list_on loop.c-index (listed-at _ c.loop-c-test.true) loop.invariant.1 c.put_command_line-at.ensures.0)
 
 pub returns : goal.returns
 returns c = search listing

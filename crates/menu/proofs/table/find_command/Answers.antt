@@ -1,26 +1,23 @@
-use Rattle.menu.proofs.TableSteps.{looking}
+-- The command at a place of the list is the first of the rest.
+-- Assumes nothing.
+use Rattle.menu.specs.Table.{commands}
+use Rattle.menu.proofs.TableSteps.{listed-at, look-start, look-end, look-found, look-on}
 use Rattle.menu.proofs.table.find_command.Goals as goal
 
-pub loop-i-init : goal.loop-i-init
-loop-i-init c = search looking
+pub loop-c-init : goal.loop-c-init
+loop-c-init c = look-start _
 
-pub command_at-c-requires : goal.command_at-c-requires
-command_at-c-requires c = search looking
+pub returns-then-same : goal.returns-then-same
+unfolding commands
+returns-then-same c =
+    let e = rw c.entry_of.ensures.name at c.same.ensures in
+    look-found _ _ _ c.loop-c.invariant _ (listed-at _ c.loop-c-test.true) _ e c.if-same.true
 
-pub is_name-requires : goal.is_name-requires
-is_name-requires c = search looking
-
-pub returns-then-is_name : goal.returns-then-is_name
-returns-then-is_name c = search looking
-
-pub overflow_add-i : goal.overflow_add-i
-overflow_add-i c = search looking
-
-pub loop-i-smaller : goal.loop-i-smaller
-loop-i-smaller c = search looking
-
-pub loop-i-preserved : goal.loop-i-preserved
-loop-i-preserved c = search looking
+pub loop-c-preserved : goal.loop-c-preserved
+unfolding commands
+loop-c-preserved c =
+    let e = rw c.entry_of.ensures.name at c.same.ensures in
+    look-on _ _ _ c.loop-c.invariant _ (listed-at _ c.loop-c-test.true) _ e c.if-same.false
 
 pub returns : goal.returns
-returns c = search looking
+returns c = look-end _ _ _ c.loop-c.invariant c.loop-c-test.false

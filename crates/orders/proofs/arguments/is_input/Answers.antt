@@ -1,16 +1,10 @@
--- Whether it is a dash, and whether the next name is read, decide.
+-- It is `-`, and one of those that are read.
 -- Assumes nothing.
-use Rattle.orders.proofs.UsageSteps.{dashed}
+use Rattle.orders.proofs.UsageSteps.{input-other, input-read}
 use Rattle.orders.proofs.arguments.is_input.Goals as goal
 
-pub same-requires : goal.same-requires
-same-requires c = search dashed
+pub returns-then-same : goal.returns-then-same
+returns-then-same c = input-read _ _ _ c.same.ensures _ c.if-same.true c.entry_of.ensures.reads
 
-pub returns-then-not-same : goal.returns-then-not-same
-returns-then-not-same c = search dashed
-
-pub reads-requires : goal.reads-requires
-reads-requires c = search dashed
-
-pub returns : goal.returns
-returns c = search dashed
+pub returns-else-same : goal.returns-else-same
+returns-else-same c = input-other _ _ _ c.same.ensures c.if-same.false
