@@ -1,64 +1,50 @@
 // A file read whole.
-ghost use Rattle.std.specs.Prelude.{◌≡◌, ◌≤◌, length};
-ghost use Rattle.disk.specs.Files.{read_of, Told};
+ghost use Rattle.std.specs.Prelude.{◌≡◌, ◌≤◌, length, IfOk};
+ghost use Rattle.disk.specs.Files.{read_of};
 
-use links::{Opened, opening, reason, text_of};
+use links::{answered, reason, text_of};
 use std::fs::File;
 use std::io::Read;
 use std::rt::{Clock, HostRuntime};
-use streams::{Filled, read_whole};
+use streams::{Broken, read_whole};
 
-// How many bytes stand at the buffer's start, and the error number of a failure, which is 0 where all went well.
-#[derive(Clone, Copy)]
-pub struct FileRead {
-    pub count: usize,
-    pub error: i32,
-}
-
-fn read_by(read: Filled, error: i32) -> FileRead
-    ensures { result ≡ read_of read error }
+fn read_by(read: Result<usize, Broken>) -> Result<usize, i32>
+    ensures { result ≡ read_of read }
 {
-    if read.failed {
-        return FileRead {
-            count: 0,
-            error: reason(error),
-        };
-    }
-    FileRead {
-        count: read.count,
-        error: 0,
+    match read {
+        Ok(count) => Ok(count),
+        Err(broken) => Err(reason(broken.error)),
     }
 }
 
-// Reads an input until the buffer is full or the input ends.
-pub fn read_input<R: Read>(rt: &impl Clock, input: &mut R, buf: &mut [u8]) -> FileRead
-    ensures { (result.count ≤ length buf.new) × Told result.count result.error }
+// Reads an input until the buffer is full or the input ends: how many bytes stand at the buffer's start, or the error number of a failure, which is never 0.
+pub fn read_input<R: Read>(rt: &impl Clock, input: &mut R, buf: &mut [u8]) -> Result<usize, i32>
+    ensures { IfOk result (λ count. count ≤ length buf.new) }
 {
-    let read = read_whole(rt, input, buf);
-    read_by(read, read.error)
+    read_by(read_whole(rt, input, buf))
 }
 
 // The file, open for reading.
-pub fn open(rt: &HostRuntime, path: &[u8]) -> Opened {
-    match text_of(path) {
-        Ok(text) => opening(File::open(rt, text)),
-        Err(error) => Opened::Failed(error),
-    }
+pub fn open(rt: &HostRuntime, path: &[u8]) -> Result<File, i32> {
+    let text = text_of(path)?;
+    answered(File::open(rt, text))
 }
 
 // Reads the file until the buffer is full or the file ends.
-pub fn read_file(rt: &HostRuntime, path: &[u8], buf: &mut [u8]) -> FileRead
-    ensures { (result.count ≤ length buf.new) × Told result.count result.error }
+pub fn read_file(rt: &HostRuntime, path: &[u8], buf: &mut [u8]) -> Result<usize, i32>
+    ensures { IfOk result (λ count. count ≤ length buf.new) }
 {
     read_opened(rt, open(rt, path), buf)
 }
 
 // The same of a file that was opened, or was not.
-pub fn read_opened(rt: &HostRuntime, o: Opened, buf: &mut [u8]) -> FileRead
-    ensures { (result.count ≤ length buf.new) × Told result.count result.error }
+pub fn read_opened(
+    rt: &HostRuntime,
+    opened: Result<File, i32>,
+    buf: &mut [u8],
+) -> Result<usize, i32>
+    ensures { IfOk result (λ count. count ≤ length buf.new) }
 {
-    match o {
-        Opened::At(mut file) => read_input(rt, &mut file, buf),
-        Opened::Failed(error) => FileRead { count: 0, error },
-    }
+    let mut file = opened?;
+    read_input(rt, &mut file, buf)
 }

@@ -1,11 +1,10 @@
 -- What stands at a path, by the system's answer and the mode that it tells, and which way a file is saved there.
-use Rattle.std.specs.Prelude.{ℕ, zero, suc, Bool, false, cond, eqb, ℤ, pos, negsuc}
+use Rattle.std.specs.Prelude.{ℕ, Bool, false, cond, eqb, ℤ, pos, negsuc, Some, None, Result, Ok, Err}
 use Rattle.std.specs.Int.Bits.{bit_and}
 use Rattle.links.specs.Faults.{reason_of}
 use Rattle.links.specs.Paths.{name_long}
 use Rattle.links.specs.declared.looking.Kind.{Kind}
 use Rattle.links.specs.declared.looking.Kind.TheVariants as kind
-use Rattle.links.specs.declared.looking.Mode.TheVariants as mode
 use Rattle.links.specs.declared.looking.Way.{Way}
 use Rattle.links.specs.declared.looking.Way.TheVariants as way
 
@@ -42,16 +41,15 @@ unfoldable pub unseen_by : (error : ℤ) → Kind
 unseen_by (pos n) = cond (eqb n no_entry) kind.Missing (kind.Unseen (reason_of (pos n)))
 unseen_by (negsuc n) = kind.Unseen (reason_of (negsuc n))
 
--- An answer of 0 tells a mode; any other is a failure, and one of them says that nothing stands there.
-unfoldable pub found_of : (answer error : ℤ) (mode : ℕ) → Kind
-found_of (pos zero) error mode = kind_of mode
-found_of (pos (suc n)) error mode = unseen_by error
-found_of (negsuc n) error mode = unseen_by error
+-- The system tells a mode, or fails, and one of the failures says that nothing stands there.
+abbrev pub found_of : Result ℕ ℤ → Kind
+found_of (Ok mode) = kind_of mode
+found_of (Err error) = unseen_by error
 
 -- Only a regular file is renamed over, by one with its permissions. A folder is never written, and all else that is there, a link that is not followed too, is written in place.
 abbrev pub way_of : Kind → Way
-way_of kind.Missing = way.Beside mode.AsMade
-way_of (kind.Regular bits) = way.Beside (mode.Kept bits)
+way_of kind.Missing = way.Beside None
+way_of (kind.Regular bits) = way.Beside (Some bits)
 way_of kind.Folder = way.Barred (pos is_folder)
 way_of kind.Link = way.InPlace
 way_of kind.Other = way.InPlace

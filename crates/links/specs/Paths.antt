@@ -1,9 +1,7 @@
 -- Paths as bytes: the folder that a path names a file in, and where a link leads.
-use Rattle.std.specs.Prelude.{◌≡◌, Bool, true, cond, List, [], ◌∷◌, ◌++◌, ℕ, zero, suc, ◌≤◌, eqb, ltb, pos, length, take, get_or}
+use Rattle.std.specs.Prelude.{◌≡◌, Bool, true, cond, List, [], ◌∷◌, ◌++◌, ℕ, zero, suc, ◌≤◌, eqb, ltb, ℤ, pos, length, take, get_or, Result, Ok, Err}
 use Rattle.ascii.specs.Text.{bytes_of}
 use Rattle.ascii.specs.Words.{begins}
-use Rattle.links.specs.declared.paths.Next.{Next}
-use Rattle.links.specs.declared.paths.Next.TheVariants as next
 
 -- A path has at most this many bytes, one less than there is room for, and the error number of a longer one.
 abbrev pub longest_path : ℕ
@@ -50,11 +48,11 @@ kept_size link target = cond (begins (bytes_of "/") target) 0 (folder_size link)
 unfoldable pub next_path : (link target : List ℕ) → List ℕ
 next_path link target = take (kept_size link target) link ++ target
 
-unfoldable pub gone_to : (path : List ℕ) → Next
-gone_to path = cond (ltb longest_path (length path)) (next.Failed (pos name_long)) (next.To (length path))
+unfoldable pub gone_to : (path : List ℕ) → Result ℕ ℤ
+gone_to path = cond (ltb longest_path (length path)) (Err (pos name_long)) (Ok (length path))
 
 -- The path that the link leads to stands at the start, where it is no longer than any.
-pub record Gone (place : List ℕ) (size : ℕ) (target new : List ℕ) (r : Next) : Type 0 where
+pub record Gone (place : List ℕ) (size : ℕ) (target new : List ℕ) (r : Result ℕ ℤ) : Type 0 where
   pub told : r ≡ gone_to (next_path (take size place) target)
   pub laid : length (next_path (take size place) target) ≤ longest_path → take (length (next_path (take size place) target)) new ≡ next_path (take size place) target
   pub size_stays : length new ≡ length place

@@ -1,6 +1,6 @@
 // What stands at a path, and which way a file is saved there.
 ghost use Rattle.std.specs.Prelude.{◌≡◌, false, ◌<◌, length};
-ghost use Rattle.links.specs.Looking.{kind_of, found_of, way_of, has_bits, unseen_long};
+ghost use Rattle.links.specs.Looking.{kind_of, unseen_by, found_of, way_of, has_bits, unseen_long};
 ghost use Rattle.links.specs.Paths.{longest_path};
 
 use crate::faults::reason;
@@ -28,7 +28,7 @@ const LINK: u32 = 0o120000;
 const PERMISSIONS: u32 = 0o777;
 
 // Nothing stands there, or a regular file with these permissions, a folder, a link or something else; or the system does not say what, with the reason's number.
-#[derive(Clone, Copy)]
+#[derive(Clone, Copy, PartialEq, Eq)]
 pub enum Kind {
     Missing,
     Regular(u32),
@@ -38,76 +38,50 @@ pub enum Kind {
     Unseen(i32),
 }
 
-// The permissions of a file that is made: what the system leaves, or those of the file that it replaces.
-#[derive(Clone, Copy)]
-pub enum Mode {
-    AsMade,
-    Kept(u32),
-}
-
-// A file is saved beside the path and renamed, or in place, or not at all.
+// A file is saved beside the path and renamed, with the permissions of the file that it replaces where there is one; or in place, or not at all.
 #[derive(Clone, Copy)]
 pub enum Way {
-    Beside(Mode),
+    Beside(Option<u32>),
     InPlace,
     Barred(i32),
 }
 
-// The system's answer to what stands at a path, 0 or below it, and the mode of what does or the number of the failure.
-#[derive(Clone, Copy)]
-struct Asked {
-    answer: i32,
-    mode: u32,
-    error: i32,
-}
-
-// What is known where the system does not say.
-fn nothing_known(error: i32) -> Asked {
-    Asked {
-        answer: -1,
-        mode: 0,
-        error,
-    }
-}
-
-// Asks what stands at a path. A link is not followed: it is something else than the file that it names.
-fn ask(rt: &HostRuntime, path: &str) -> Asked {
+// Asks the mode of what stands at a path, or the number of the failure. A link is not followed: it is something else than the file that it names.
+fn ask(rt: &HostRuntime, path: &str) -> Result<u32, i32> {
     match fs::symlink_metadata(rt, path) {
-        Ok(found) => Asked {
-            answer: 0,
-            mode: found.mode(),
-            error: 0,
-        },
-        Err(e) => nothing_known(error_number(e)),
+        Ok(found) => Ok(found.mode()),
+        Err(e) => Err(error_number(e)),
     }
 }
 
 fn kind_by(mode: u32) -> Kind
     ensures { result ≡ kind_of mode }
 {
-    let form = mode & KIND_BITS;
-    if form == REGULAR {
-        return Kind::Regular(mode & PERMISSIONS);
+    match mode & KIND_BITS {
+        REGULAR => Kind::Regular(mode & PERMISSIONS),
+        FOLDER => Kind::Folder,
+        LINK => Kind::Link,
+        _ => Kind::Other,
     }
-    if form == FOLDER {
-        return Kind::Folder;
-    }
-    if form == LINK {
-        return Kind::Link;
-    }
-    Kind::Other
 }
 
-fn kind_found(asked: Asked, error: i32) -> Kind
-    ensures { result ≡ found_of asked.answer error asked.mode }
+// Where the system does not say what stands there, it may say that nothing does.
+fn unseen(error: i32) -> Kind
+    ensures { result ≡ unseen_by error }
 {
-    if asked.answer == 0 {
-        return kind_by(asked.mode);
-    }
     if error == NO_ENTRY {
         return Kind::Missing;
     }
     Kind::Unseen(reason(error))
+}
+
+fn kind_found(asked: Result<u32, i32>) -> Kind
+    ensures { result ≡ found_of asked }
+{
+    match asked {
+        Ok(mode) => kind_by(mode),
+        Err(error) => unseen(error),
+    }
 }
 
 pub fn look(rt: &HostRuntime, path: &[u8]) -> Kind
@@ -117,10 +91,7 @@ pub fn look(rt: &HostRuntime, path: &[u8]) -> Kind
         return Kind::Unseen(NAME_TOO_LONG);
     }
     match text_of(path) {
-        Ok(text) => {
-            let asked = ask(rt, text);
-            kind_found(asked, asked.error)
-        }
+        Ok(text) => kind_found(ask(rt, text)),
         Err(error) => Kind::Unseen(error),
     }
 }
@@ -130,8 +101,8 @@ pub fn way_by(kind: Kind) -> Way
     ensures { result ≡ way_of kind }
 {
     match kind {
-        Kind::Missing => Way::Beside(Mode::AsMade),
-        Kind::Regular(bits) => Way::Beside(Mode::Kept(bits)),
+        Kind::Missing => Way::Beside(None),
+        Kind::Regular(bits) => Way::Beside(Some(bits)),
         Kind::Folder => Way::Barred(IS_FOLDER),
         Kind::Link => Way::InPlace,
         Kind::Other => Way::InPlace,
@@ -142,14 +113,7 @@ pub fn way_by(kind: Kind) -> Way
 fn has_bits(kind: Kind, bits: u32) -> bool
     ensures { result ≡ has_bits kind bits }
 {
-    match kind {
-        Kind::Missing => false,
-        Kind::Regular(own) => own == bits,
-        Kind::Folder => false,
-        Kind::Link => false,
-        Kind::Other => false,
-        Kind::Unseen(_) => false,
-    }
+    kind == Kind::Regular(bits)
 }
 
 // Whether a regular file with these permissions stands at the path.

@@ -1,6 +1,6 @@
 // Paths as bytes: the folder that a path names a file in, and where a link leads.
 ghost use Rattle.std.specs.Prelude.{◌≡◌, ◌≤◌, length, MatchResult, pos};
-ghost use Rattle.links.specs.Paths.{folder_size, kept_size, is_systems, longest_path, path_room, no_text, Gone};
+ghost use Rattle.links.specs.Paths.{folder_size, kept_size, is_systems, longest_path, no_text, Gone};
 
 use ascii::{begins, put_bytes};
 use std::str;
@@ -17,36 +17,23 @@ pub const NAME_TOO_LONG: i32 = 36;
 // The error number of bytes that are no text. std names a file by text alone, which is UTF-8.
 pub const NO_TEXT: i32 = 84;
 
-// How many bytes there are to go on with, or why there are none.
-#[derive(Clone, Copy)]
-pub enum Next {
-    To(usize),
-    Failed(i32),
-}
-
 // The path as std takes one: its own bytes, where they are text.
 pub fn text_of(path: &[u8]) -> Result<&str, i32>
     ensures { MatchResult result (λ text. text.now ≡ path.now) (λ error. error ≡ pos no_text) }
 {
-    match str::from_utf8(path) {
-        Ok(text) => Ok(text),
-        Err(_) => Err(NO_TEXT),
-    }
+    str::from_utf8(path).map_err(|_| NO_TEXT)
 }
 
 // How many bytes of the path name its folder: those up to the last slash.
 pub fn folder_size(path: &[u8]) -> usize
     ensures { (result ≡ folder_size path.now) × (result ≤ length path.now) }
 {
-    let mut n = path.len();
-    while 0 < n {
-        let b = path[n - 1];
-        if b == SLASH {
-            return n;
+    for n in (0..path.len()).rev() {
+        if path[n] == SLASH {
+            return n + 1;
         }
-        n -= 1;
     }
-    n
+    0
 }
 
 // How many bytes of a link's own path stay before what it leads to.
@@ -60,24 +47,20 @@ pub fn kept_size(link: &[u8], target: &[u8]) -> usize
 }
 
 // Lays the path that a link leads to over the link's own, which is the first `size` bytes.
-pub fn go_to(place: &mut [u8], size: usize, target: &[u8]) -> Next
-    requires { (size ≤ longest_path) × (length place.old ≡ path_room) }
+pub fn go_to(place: &mut [u8; PATH_ROOM], size: usize, target: &[u8]) -> Result<usize, i32>
+    requires { size ≤ longest_path }
     ensures { Gone place.old size target.now place.new result }
 {
-    let from = 0;
-    let kept = kept_size(&place[from..size], target);
+    let kept = kept_size(&place[..size], target);
     if LAST - kept < target.len() {
-        return Next::Failed(NAME_TOO_LONG);
+        return Err(NAME_TOO_LONG);
     }
-    Next::To(put_bytes(place, kept, target))
+    Ok(put_bytes(place, kept, target))
 }
 
 // Whether the path lies among the system's own files.
 pub fn is_systems(path: &[u8]) -> bool
     ensures { result ≡ is_systems path.now }
 {
-    if begins(b"/dev/", path) {
-        return true;
-    }
-    begins(b"/proc/", path)
+    begins(b"/dev/", path) || begins(b"/proc/", path)
 }

@@ -14,14 +14,10 @@ use Rattle.chunks.specs.Inner.{reading_of, WentOn}
 use Rattle.telling.specs.Openings.{tells_refusal}
 use Rattle.performance.specs.Refused.{refused_after}
 
--- of a run that has failed nothing is said
-pub unsaid : (a b : Bool) → ◌≡◌ {A = Bool} true false → a ≡ b
-unsaid a b e = let z : ◌≡◌ {A = ℕ} 0 1 = cc in absurd (omega arith)
-
 pub line-told : (f chunk : List ℕ) (at : ℕ) (m room line : List ℕ) (p : Progress) (out m' room' line' out' : List ℕ) (s : Step) (r refused : Bool)
     → WentOn f chunk at m room line p out m' room' line' out' s → r ≡ pick (tells_refusal (take s.count out')) true refused
     → r ≡ refused_after f (reading_of m room line p) (drop at chunk) refused
 unfolding refused_after
 line-told f chunk at m room line p out m' room' line' out' s r refused w e = rw w.output.front at e
 
-pub ruleset turns = (unsaid, line-told, rules)
+pub ruleset turns = (line-told, rules)

@@ -69,11 +69,11 @@ pub fn perform<R: Read>(
     requires { output_room ≤ length out.old }
 {
     let mut line = [0u8; 24];
-    let s = read_lines(
+    let read = read_lines(
         rt, file, score, first, commands, grace, input, mem, room, &mut line, out,
     );
-    if s.failed {
-        return Ending::Failed;
+    match read {
+        Ok(s) => finish(rt, file, score, first, mem, room, &line, s, out),
+        Err(ending) => ending,
     }
-    finish(rt, file, score, first, mem, room, &line, s, out)
 }

@@ -20,9 +20,6 @@ const LINE_ROOM: usize = 64;
 
 // A score file that can't be read is played as an empty one, and people are told why. Answers whether that is a failure: a missing one is none.
 fn tell_unread(rt: &HostRuntime, error: i32) -> bool {
-    if error == 0 {
-        return false;
-    }
     if error == NO_ENTRY {
         streams::say(rt, b"score.bin: missing, read as an empty file\n");
         return false;
@@ -38,14 +35,15 @@ fn main(rt: HostRuntime) {
     let mut mem = [0u64; MEMORY_SIZE];
     let mut room = [0u64; ROOM_SIZE];
     let mut out = [0u8; OUTPUT_ROOM];
-    let from = 0;
     let read = disk::read_file(&rt, b"score.bin", &mut file);
-    let size = read.count;
     let mut input = rt.stdin();
-    let failed = tell_unread(&rt, read.error);
+    let (size, failed) = match read {
+        Ok(size) => (size, false),
+        Err(error) => (0, tell_unread(&rt, error)),
+    };
     let ending = performance::perform(
         &rt,
-        &file[from..size],
+        &file[..size],
         b"score.bin",
         b"line 1",
         b"standard input",

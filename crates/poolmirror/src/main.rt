@@ -1,17 +1,18 @@
 // `poolmirror`: what people do with a score from the shell. The libraries decide what is asked for, what is said and which status tells it; the program moves bytes between the system and them.
 #![tactic(auto)]
 
-ghost use Rattle.std.specs.Prelude.{◌≡◌, ◌+◌, ◌≤◌, length};
+ghost use Rattle.std.specs.Prelude.{◌≡◌, ◌≤◌, length, IfSome, IfOk};
 
 use ascii::{put_byte, put_number};
 use checking::Tally;
-use disk::{FileRead, Saved};
-use links::{Opened, PATH_ROOM};
+use disk::SaveError;
+use links::PATH_ROOM;
 use menu::Command;
 use orders::{Order, Usage};
 use playing::OUTPUT_ROOM;
 use session::layout::{MEMORY_SIZE, ROOM_SIZE};
 use std::env::FillError;
+use std::fs::File;
 use std::io::Read;
 use std::rt::{Env, HostRuntime};
 use streams::Ending;
@@ -52,11 +53,7 @@ fn read_argument(rt: &HostRuntime, i: usize, arg: &mut [u8]) -> usize
 
 fn is_argument(rt: &HostRuntime, i: usize) -> bool {
     let mut first = [0u8; 1];
-    match rt.arg(i, &mut first) {
-        Ok(_) => true,
-        Err(FillError::TooLong) => true,
-        Err(FillError::NotPresent) => false,
-    }
+    !matches!(rt.arg(i, &mut first), Err(FillError::NotPresent))
 }
 
 // How many arguments there are, the program's own name among them.
@@ -71,14 +68,12 @@ fn argument_count(rt: &HostRuntime) -> usize {
 
 fn begin_order(rt: &HostRuntime, arg: &mut [u8]) -> Order {
     let n = read_argument(rt, 1, arg);
-    let from = 0;
-    orders::begin(&arg[from..n])
+    orders::begin(&arg[..n])
 }
 
 fn take_argument(rt: &HostRuntime, o: Order, i: usize, arg: &mut [u8]) -> Order {
     let n = read_argument(rt, i, arg);
-    let from = 0;
-    orders::take(o, i, &arg[from..n])
+    orders::take(o, i, &arg[..n])
 }
 
 fn read_order(rt: &HostRuntime, arg: &mut [u8]) -> Order {
@@ -87,10 +82,8 @@ fn read_order(rt: &HostRuntime, arg: &mut [u8]) -> Order {
         return orders::nothing();
     }
     let mut o = begin_order(rt, arg);
-    let mut i = FIRST_NAME;
-    while i < count {
+    for i in FIRST_NAME..count {
         o = take_argument(rt, o, i, arg);
-        i += 1;
     }
     orders::close(o)
 }
@@ -102,47 +95,44 @@ const READ_NAMES: &str = "POOLMIRROR_NAMES";
 
 const SAVED_NAMES: &str = "POOLMIRROR_SAVED";
 
-// Lays the path of the link to what argument i names, which bin/shared.bash makes where the name is no text: std opens a file by text alone. Answers the path's length, 0 where there is none.
-fn put_link(rt: &HostRuntime, names: &str, i: usize, place: &mut [u8]) -> usize
-    requires { length place.old ≡ 4096 }
-    ensures { (result ≤ 4096) × (length place.new ≡ 4096) }
+// Lays the path of the link to what argument i names, which bin/shared.bash makes where the name is no text: std opens a file by text alone. Answers the path's length, where there is one.
+fn put_link(rt: &HostRuntime, names: &str, i: usize, place: &mut [u8; PATH_ROOM]) -> Option<usize>
+    ensures { IfSome result (λ n. n ≤ 4096) }
 {
     let Ok(n) = rt.var(names, place) else {
-        return 0;
+        return None;
     };
     if MOST_LINKS_PATH < n {
-        return 0;
+        return None;
     }
     let at = put_byte(place, n, b'/');
-    put_number(place, at, i as u64)
+    Some(put_number(place, at, i as u64))
 }
 
 // The file that argument i names, open for reading.
-fn open_named(rt: &HostRuntime, i: usize, name: &[u8]) -> Opened {
+fn open_named(rt: &HostRuntime, i: usize, name: &[u8]) -> Result<File, i32> {
     if links::text_of(name).is_ok() {
         return disk::open(rt, name);
     }
     let mut place = [0u8; PATH_ROOM];
-    let n = put_link(rt, READ_NAMES, i, &mut place);
-    if n == 0 {
-        return disk::open(rt, name);
+    match put_link(rt, READ_NAMES, i, &mut place) {
+        Some(n) => disk::open(rt, &place[..n]),
+        None => disk::open(rt, name),
     }
-    disk::open(rt, &place[..n])
 }
 
 // Saves the bytes as the file that argument i names.
-fn save_by(rt: &HostRuntime, i: usize, name: &[u8], made: &[u8]) -> Saved {
+fn save_by(rt: &HostRuntime, i: usize, name: &[u8], made: &[u8]) -> Result<(), SaveError> {
     let mut place = [0u8; PATH_ROOM];
-    let n = put_link(rt, SAVED_NAMES, i, &mut place);
-    if n == 0 {
-        return disk::save(rt, name, made);
+    match put_link(rt, SAVED_NAMES, i, &mut place) {
+        Some(n) => disk::save(rt, &place[..n], made),
+        None => disk::save(rt, name, made),
     }
-    disk::save(rt, &place[..n], made)
 }
 
-// The bytes of the file that argument i names, or standard input's, as many as there is room for.
-fn read_named(rt: &HostRuntime, i: usize, name: &[u8], file: &mut [u8]) -> FileRead
-    ensures { result.count ≤ length file.new }
+// How many bytes the file that argument i names has, or standard input, as many as there is room for; or the number of why it can't be read.
+fn read_named(rt: &HostRuntime, i: usize, name: &[u8], file: &mut [u8]) -> Result<usize, i32>
+    ensures { IfOk result (λ count. count ≤ length file.new) }
 {
     if orders::is_standard(name) {
         let mut input = rt.stdin();
@@ -151,140 +141,112 @@ fn read_named(rt: &HostRuntime, i: usize, name: &[u8], file: &mut [u8]) -> FileR
     disk::read_opened(rt, open_named(rt, i, name), file)
 }
 
-// The same of a name that is shown, where more than there is room for is told as too large.
-fn read_whole(rt: &HostRuntime, i: usize, name: &[u8], file: &mut [u8]) -> FileRead
-    ensures { result.count ≤ length file.new }
+// The same, where more than there is room for is told as too large.
+fn read_whole(rt: &HostRuntime, i: usize, name: &[u8], file: &mut [u8]) -> Result<usize, i32>
+    ensures { IfOk result (λ count. count ≤ length file.new) }
 {
-    let got = read_named(rt, i, name, file);
-    if file.len() <= got.count {
-        return FileRead {
-            count: 0,
-            error: TOO_LARGE,
-        };
+    let count = read_named(rt, i, name, file)?;
+    if file.len() <= count {
+        return Err(TOO_LARGE);
     }
-    got
+    Ok(count)
 }
 
 // ---- check
 
-// What has come of the files so far, the order as far as it was gone through again, and whether a line could not be written.
+// What has come of the files so far, and the order as far as it was gone through again.
 #[derive(Clone, Copy)]
 struct Run {
     tally: Tally,
     order: Order,
-    failed: bool,
 }
 
-// The line of a name.
+// The line of a name. Where it can't be written, the program has failed.
 fn check_name(
     rt: &HostRuntime,
     i: usize,
-    arg: &mut [u8],
+    arg: &mut [u8; PATH_ROOM],
     n: usize,
     file: &mut [u8],
-    out: &mut [u8],
+    out: &mut [u8; LINE_ROOM],
     t: Tally,
-    o: Order,
-) -> Run
-    requires { (n ≤ length arg.old) × (length arg.old ≡ 4096) × (8192 ≤ length out.old) }
+) -> Result<Tally, Ending>
+    requires { n ≤ length arg.old }
 {
-    let from = 0;
-    let read = read_named(rt, i, &arg[from..n], file);
+    let read = read_named(rt, i, &arg[..n], file);
     let shown = orders::show(arg, n);
-    let size = read.count;
-    let a = checking::account_line(out, &arg[from..shown], read.error, &file[from..size]);
-    let came = a.came;
-    Run {
-        tally: checking::count_file(t, came),
-        order: o,
-        failed: !streams::print(rt, out, a.count),
+    let a = match read {
+        Ok(size) => checking::account_line(out, &arg[..shown], 0, &file[..size]),
+        Err(error) => checking::account_line(out, &arg[..shown], error, b""),
+    };
+    if !streams::print(rt, out, a.count) {
+        return Err(Ending::Failed);
     }
+    Ok(checking::count_file(t, a.came))
 }
 
-// What is no name is passed.
-fn check_if(
-    rt: &HostRuntime,
-    named: bool,
-    i: usize,
-    arg: &mut [u8],
-    n: usize,
-    file: &mut [u8],
-    out: &mut [u8],
-    t: Tally,
-    o: Order,
-) -> Run
-    requires { (n ≤ length arg.old) × (length arg.old ≡ 4096) × (8192 ≤ length out.old) }
-{
-    if named {
-        return check_name(rt, i, arg, n, file, out, t, o);
-    }
-    Run {
-        tally: t,
-        order: o,
-        failed: false,
-    }
-}
-
-// One argument more.
+// One argument more. What is no name is passed.
 fn check_argument(
     rt: &HostRuntime,
     i: usize,
-    arg: &mut [u8],
+    arg: &mut [u8; PATH_ROOM],
     file: &mut [u8],
-    out: &mut [u8],
+    out: &mut [u8; LINE_ROOM],
     s: Run,
-) -> Run
-    requires { (length arg.old ≡ 4096) × (8192 ≤ length out.old) }
-{
+) -> Result<Run, Ending> {
     let n = read_argument(rt, i, arg);
-    let from = 0;
-    let named = orders::is_name(s.order, &arg[from..n]);
-    let order = orders::take(s.order, i, &arg[from..n]);
-    check_if(rt, named, i, arg, n, file, out, s.tally, order)
+    let named = orders::is_name(s.order, &arg[..n]);
+    let order = orders::take(s.order, i, &arg[..n]);
+    if !named {
+        return Ok(Run {
+            tally: s.tally,
+            order,
+        });
+    }
+    let tally = check_name(rt, i, arg, n, file, out, s.tally)?;
+    Ok(Run { tally, order })
 }
 
 // The line of each name, in order.
-fn check_names(rt: &HostRuntime, arg: &mut [u8], file: &mut [u8], out: &mut [u8]) -> Run
-    requires { (length arg.old ≡ 4096) × (8192 ≤ length out.old) }
-{
+fn check_names(
+    rt: &HostRuntime,
+    arg: &mut [u8; PATH_ROOM],
+    file: &mut [u8],
+    out: &mut [u8; LINE_ROOM],
+) -> Result<Tally, Ending> {
     let count = argument_count(rt);
     let order = begin_order(rt, arg);
     let mut s = Run {
         tally: checking::no_files(),
         order,
-        failed: false,
     };
-    let mut i = FIRST_NAME;
-    while i < count {
-        s = check_argument(rt, i, arg, file, out, s);
-        if s.failed {
-            return s;
-        }
-        i += 1;
+    for i in FIRST_NAME..count {
+        s = check_argument(rt, i, arg, file, out, s)?;
     }
-    s
+    Ok(s.tally)
 }
 
 // The sum, where it is worth telling.
-fn say_tally(rt: &HostRuntime, out: &mut [u8], t: Tally)
-    requires { 8192 ≤ length out.old }
-{
+fn say_tally(rt: &HostRuntime, out: &mut [u8; LINE_ROOM], t: Tally) {
     if checking::worth_telling(t) {
         let n = checking::tally_line(out, t);
         streams::say_first(rt, out, n);
     }
 }
 
-fn check(rt: &HostRuntime, arg: &mut [u8], file: &mut [u8], out: &mut [u8]) -> Ending
-    requires { (length arg.old ≡ 4096) × (8192 ≤ length out.old) }
-{
-    let s = check_names(rt, arg, file, out);
-    if s.failed {
-        return orders::ending_if(false);
+fn check(
+    rt: &HostRuntime,
+    arg: &mut [u8; PATH_ROOM],
+    file: &mut [u8],
+    out: &mut [u8; LINE_ROOM],
+) -> Ending {
+    match check_names(rt, arg, file, out) {
+        Ok(tally) => {
+            say_tally(rt, out, tally);
+            checking::ending_of(tally)
+        }
+        Err(ending) => ending,
     }
-    let tally = s.tally;
-    say_tally(rt, out, tally);
-    checking::ending_of(tally)
 }
 
 // ---- play
@@ -302,20 +264,19 @@ fn perform<R: Read>(
     list: &[u8],
     grace: u64,
     input: &mut R,
-    first: &mut [u8],
+    first: &mut [u8; LINE_ROOM],
 ) -> Ending
-    requires { (length list.now ≤ 4096) × (8192 ≤ length first.old) }
+    requires { length list.now ≤ 4096 }
 {
     let mut mem = [0u64; MEMORY_SIZE];
     let mut room = [0u64; ROOM_SIZE];
     let mut out = [0u8; OUTPUT_ROOM];
     let n = orders::put_first_line(first, list);
-    let from = 0;
     performance::perform(
         rt,
         file,
         score,
-        &first[from..n],
+        &first[..n],
         list,
         grace,
         input,
@@ -329,50 +290,37 @@ fn perform<R: Read>(
 fn play_score<R: Read>(
     rt: &HostRuntime,
     i: usize,
-    score: &mut [u8],
+    score: &mut [u8; PATH_ROOM],
     n: usize,
     list: &[u8],
     grace: u64,
     input: &mut R,
     file: &mut [u8],
-    out: &mut [u8],
+    out: &mut [u8; LINE_ROOM],
 ) -> Ending
-    requires { (n ≤ length score.old) × (length score.old ≡ 4096) × (length list.now ≤ 4096) × (8192 ≤ length out.old) }
+    requires { (n ≤ length score.old) × (length list.now ≤ 4096) }
 {
-    let from = 0;
-    let read = read_named(rt, i, &score[from..n], file);
+    let read = read_named(rt, i, &score[..n], file);
     let named = orders::show(score, n);
-    if read.error != 0 {
-        return unread(rt, &score[from..named], read.error);
+    match read {
+        Ok(size) => perform(rt, &file[..size], &score[..named], list, grace, input, out),
+        Err(error) => unread(rt, &score[..named], error),
     }
-    let size = read.count;
-    perform(
-        rt,
-        &file[from..size],
-        &score[from..named],
-        list,
-        grace,
-        input,
-        out,
-    )
 }
 
 // `play FILE COMMANDS [GRACE]`: the first name is the score's, the second the commands', and the number behind them is the grace, which is 0 where there is none. The commands are opened before the score is read, so that nothing is played where one of them can't be.
 fn play(
     rt: &HostRuntime,
     o: Order,
-    score: &mut [u8],
-    list: &mut [u8],
+    score: &mut [u8; PATH_ROOM],
+    list: &mut [u8; PATH_ROOM],
     file: &mut [u8],
-    out: &mut [u8],
-) -> Ending
-    requires { (length score.old ≡ 4096) × (length list.old ≡ 4096) × (8192 ≤ length out.old) }
-{
-    let from = 0;
+    out: &mut [u8; LINE_ROOM],
+) -> Ending {
     let names = o.names;
     let n = read_argument(rt, names.first, score);
     let m = read_argument(rt, names.second, list);
-    if orders::is_standard(&list[from..m]) {
+    if orders::is_standard(&list[..m]) {
         let listed = orders::show(list, m);
         let mut input = rt.stdin();
         return play_score(
@@ -380,23 +328,23 @@ fn play(
             names.first,
             score,
             n,
-            &list[from..listed],
+            &list[..listed],
             o.number,
             &mut input,
             file,
             out,
         );
     }
-    let commands = open_named(rt, names.second, &list[from..m]);
+    let commands = open_named(rt, names.second, &list[..m]);
     let listed = orders::show(list, m);
     match commands {
-        Opened::Failed(error) => unread(rt, &list[from..listed], error),
-        Opened::At(mut input) => play_score(
+        Err(error) => unread(rt, &list[..listed], error),
+        Ok(mut input) => play_score(
             rt,
             names.first,
             score,
             n,
-            &list[from..listed],
+            &list[..listed],
             o.number,
             &mut input,
             file,
@@ -413,295 +361,229 @@ fn unwritten(rt: &HostRuntime, name: &[u8], error: i32) -> Ending {
     orders::ending_if(false)
 }
 
-fn tell_saved(rt: &HostRuntime, name: &[u8], s: Saved) -> Ending {
-    match s {
-        Saved::Whole => orders::ending_if(true),
-        Saved::NotMade(error) => unwritten(rt, name, error),
-        Saved::NotWritten(error) => unwritten(rt, name, error),
-        Saved::NotSafe(error) => unwritten(rt, name, error),
-        Saved::NotRenamed(error) => unwritten(rt, name, error),
+fn tell_saved(rt: &HostRuntime, name: &[u8], saved: Result<(), SaveError>) -> Ending {
+    match saved {
+        Ok(()) => orders::ending_if(true),
+        Err(
+            SaveError::NotMade(error)
+            | SaveError::NotWritten(error)
+            | SaveError::NotSafe(error)
+            | SaveError::NotRenamed(error),
+        ) => unwritten(rt, name, error),
     }
 }
 
 // What was made goes to standard output, or into the file of this name: whole or not at all.
-fn save_named(rt: &HostRuntime, i: usize, name: &mut [u8], n: usize, made: &[u8]) -> Ending
-    requires { (n ≤ length name.old) × (length name.old ≡ 4096) }
+fn save_named(
+    rt: &HostRuntime,
+    i: usize,
+    name: &mut [u8; PATH_ROOM],
+    n: usize,
+    made: &[u8],
+) -> Ending
+    requires { n ≤ length name.old }
 {
-    let from = 0;
-    if orders::is_standard(&name[from..n]) {
+    if orders::is_standard(&name[..n]) {
         return orders::ending_if(streams::print(rt, made, made.len()));
     }
-    let s = save_by(rt, i, &name[from..n], made);
+    let saved = save_by(rt, i, &name[..n], made);
     let shown = orders::show(name, n);
-    tell_saved(rt, &name[from..shown], s)
+    tell_saved(rt, &name[..shown], saved)
 }
 
-// The first bytes of the room, as many as the reply says, where it was granted.
+// Why nothing was made: how many bytes of `out` say so, and how the program ends for it.
+#[derive(Clone, Copy)]
+struct Refused {
+    said: usize,
+    ending: Ending,
+}
+
+// What `read`, `write` and `unfold` differ in: what they read, and what they make of it.
+trait Making {
+    // Reads what argument i names.
+    fn read(rt: &HostRuntime, i: usize, name: &[u8], given: &mut [u8]) -> Result<usize, i32>
+        ensures { IfOk result (λ count. count ≤ length given.new) };
+
+    // Makes what is saved, from the front of the room: how many bytes it has.
+    fn make(
+        name: &[u8],
+        given: &[u8],
+        room: &mut [u8],
+        out: &mut [u8; LINE_ROOM],
+    ) -> Result<usize, Refused>
+        requires { length name.now ≤ 4096 };
+}
+
+// `read`: a score's file, of its text.
+struct Reading;
+
+// `write`: a score's text, of its file.
+struct Writing;
+
+// `unfold`: a score's file, of an extended score.
+struct Unfolding;
+
+impl Making for Reading {
+    fn read(rt: &HostRuntime, i: usize, name: &[u8], given: &mut [u8]) -> Result<usize, i32> {
+        read_whole(rt, i, name, given)
+    }
+
+    fn make(
+        name: &[u8],
+        given: &[u8],
+        room: &mut [u8],
+        out: &mut [u8; LINE_ROOM],
+    ) -> Result<usize, Refused> {
+        let t = reader::read_text(given, room);
+        let said = transcribing::read_line(out, name, given, t);
+        let ending = transcribing::ending_of(t);
+        t.map_err(|_| Refused { said, ending })
+    }
+}
+
+impl Making for Writing {
+    fn read(rt: &HostRuntime, i: usize, name: &[u8], given: &mut [u8]) -> Result<usize, i32> {
+        read_named(rt, i, name, given)
+    }
+
+    fn make(
+        name: &[u8],
+        given: &[u8],
+        room: &mut [u8],
+        out: &mut [u8; LINE_ROOM],
+    ) -> Result<usize, Refused> {
+        let t = writer::write_text(given, room);
+        let said = transcribing::write_line(out, name, given, t);
+        let ending = transcribing::ending_of(t);
+        t.map_err(|_| Refused { said, ending })
+    }
+}
+
+impl Making for Unfolding {
+    fn read(rt: &HostRuntime, i: usize, name: &[u8], given: &mut [u8]) -> Result<usize, i32> {
+        read_whole(rt, i, name, given)
+    }
+
+    fn make(
+        name: &[u8],
+        given: &[u8],
+        room: &mut [u8],
+        out: &mut [u8; LINE_ROOM],
+    ) -> Result<usize, Refused> {
+        let u = unfolder::unfold(given, room);
+        let said = transcribing::unfold_line(out, name, given, u);
+        let ending = transcribing::unfold_ending(u);
+        u.map_err(|_| Refused { said, ending })
+    }
+}
+
+// What was made is saved, and what is refused is said. What the first name names is read whole before anything is written under the second.
+fn transcribe_named<M: Making>(
+    rt: &HostRuntime,
+    o: Order,
+    name: &mut [u8; PATH_ROOM],
+    saved: &mut [u8; PATH_ROOM],
+    given: &mut [u8],
+    room: &mut [u8],
+    out: &mut [u8; LINE_ROOM],
+) -> Ending {
+    let names = o.names;
+    let n = read_argument(rt, names.first, name);
+    let m = read_argument(rt, names.second, saved);
+    let read = M::read(rt, names.first, &name[..n], given);
+    let shown = orders::show(name, n);
+    let size = match read {
+        Ok(size) => size,
+        Err(error) => return unread(rt, &name[..shown], error),
+    };
+    match M::make(&name[..shown], &given[..size], room, out) {
+        Ok(size) => save_made(rt, names.second, saved, m, room, size),
+        Err(refused) => {
+            streams::say_first(rt, out, refused.said);
+            refused.ending
+        }
+    }
+}
+
+// The first bytes of the room, as many as were made.
 fn save_made(
     rt: &HostRuntime,
     i: usize,
-    name: &mut [u8],
+    name: &mut [u8; PATH_ROOM],
     n: usize,
     room: &[u8],
     size: usize,
 ) -> Ending
-    requires { (n ≤ length name.old) × (length name.old ≡ 4096) }
+    requires { n ≤ length name.old }
 {
-    if room.len() < size {
-        return orders::ending_if(false);
+    match room.get(..size) {
+        Some(made) => save_named(rt, i, name, n, made),
+        None => orders::ending_if(false),
     }
-    let from = 0;
-    save_named(rt, i, name, n, &room[from..size])
 }
 
-// What is refused is said, in the first n bytes of `out`, and has its ending; nothing is where something was made, and that is saved.
-fn settle(
-    rt: &HostRuntime,
-    out: &[u8],
-    n: usize,
-    ended: Ending,
-    i: usize,
-    made: &mut [u8],
-    m: usize,
-    room: &[u8],
-    size: usize,
-) -> Ending
-    requires { (m ≤ length made.old) × (length made.old ≡ 4096) }
-{
-    if 0 < n {
-        streams::say_first(rt, out, n);
-        return ended;
-    }
-    save_made(rt, i, made, m, room, size)
-}
-
-fn read_score(
-    rt: &HostRuntime,
-    name: &[u8],
-    text: &[u8],
-    i: usize,
-    made: &mut [u8],
-    m: usize,
-    out: &mut [u8],
-) -> Ending
-    requires { (length name.now ≤ 4096) × (m ≤ length made.old) × (length made.old ≡ 4096) × (8192 ≤ length out.old) }
-{
-    let mut room = [0u8; FILE_ROOM];
-    let t = reader::read_text(text, &mut room);
-    let n = transcribing::read_line(out, name, text, t);
-    let ended = transcribing::ending_of(t);
-    let size = text::replied_text(t).size;
-    settle(rt, out, n, ended, i, made, m, &room, size)
-}
-
-// The text is read whole before anything is written.
-fn read_named_text(
-    rt: &HostRuntime,
-    o: Order,
-    name: &mut [u8],
-    made: &mut [u8],
-    text: &mut [u8],
-    out: &mut [u8],
-) -> Ending
-    requires { (length name.old ≡ 4096) × (length made.old ≡ 4096) × (8192 ≤ length out.old) }
-{
-    let from = 0;
-    let names = o.names;
-    let n = read_argument(rt, names.first, name);
-    let m = read_argument(rt, names.second, made);
-    let got = read_whole(rt, names.first, &name[from..n], text);
-    let shown = orders::show(name, n);
-    if got.error != 0 {
-        return unread(rt, &name[from..shown], got.error);
-    }
-    let size = got.count;
-    read_score(
-        rt,
-        &name[from..shown],
-        &text[from..size],
-        names.second,
-        made,
-        m,
-        out,
-    )
-}
-
-fn read_into(rt: &HostRuntime, o: Order, text: &mut [u8]) -> Ending {
+fn transcribe<M: Making>(rt: &HostRuntime, o: Order, given: &mut [u8], room: &mut [u8]) -> Ending {
     let mut name = [0u8; PATH_ROOM];
-    let mut made = [0u8; PATH_ROOM];
+    let mut saved = [0u8; PATH_ROOM];
     let mut out = [0u8; LINE_ROOM];
-    read_named_text(rt, o, &mut name, &mut made, text, &mut out)
+    transcribe_named::<M>(rt, o, &mut name, &mut saved, given, room, &mut out)
 }
 
 // `read TEXT FILE`. The text's room stands in a function of its own, and so do those of `write` and `unfold`: the length of so long an array is proved by a law, since to count it would be too much.
 fn read(rt: &HostRuntime, o: Order) -> Ending {
     let mut text = [0u8; TEXT_ROOM];
-    read_into(rt, o, &mut text)
-}
-
-fn write_score(
-    rt: &HostRuntime,
-    name: &[u8],
-    file: &[u8],
-    i: usize,
-    made: &mut [u8],
-    m: usize,
-    room: &mut [u8],
-    out: &mut [u8],
-) -> Ending
-    requires { (length name.now ≤ 4096) × (m ≤ length made.old) × (length made.old ≡ 4096) × (8192 ≤ length out.old) }
-{
-    let t = writer::write_text(file, room);
-    let n = transcribing::write_line(out, name, file, t);
-    let ended = transcribing::ending_of(t);
-    let size = text::replied_text(t).size;
-    settle(rt, out, n, ended, i, made, m, room, size)
-}
-
-fn write_named_score(
-    rt: &HostRuntime,
-    o: Order,
-    name: &mut [u8],
-    made: &mut [u8],
-    file: &mut [u8],
-    room: &mut [u8],
-    out: &mut [u8],
-) -> Ending
-    requires { (length name.old ≡ 4096) × (length made.old ≡ 4096) × (8192 ≤ length out.old) }
-{
-    let from = 0;
-    let names = o.names;
-    let n = read_argument(rt, names.first, name);
-    let m = read_argument(rt, names.second, made);
-    let got = read_named(rt, names.first, &name[from..n], file);
-    let shown = orders::show(name, n);
-    if got.error != 0 {
-        return unread(rt, &name[from..shown], got.error);
-    }
-    let size = got.count;
-    write_score(
-        rt,
-        &name[from..shown],
-        &file[from..size],
-        names.second,
-        made,
-        m,
-        room,
-        out,
-    )
-}
-
-fn write_into(rt: &HostRuntime, o: Order, room: &mut [u8]) -> Ending {
-    let mut name = [0u8; PATH_ROOM];
-    let mut made = [0u8; PATH_ROOM];
-    let mut file = [0u8; FILE_ROOM];
-    let mut out = [0u8; LINE_ROOM];
-    write_named_score(rt, o, &mut name, &mut made, &mut file, room, &mut out)
+    let mut room = [0u8; FILE_ROOM];
+    transcribe::<Reading>(rt, o, &mut text, &mut room)
 }
 
 // `write FILE TEXT`
 fn write(rt: &HostRuntime, o: Order) -> Ending {
+    let mut file = [0u8; FILE_ROOM];
     let mut room = [0u8; WRITTEN_ROOM];
-    write_into(rt, o, &mut room)
-}
-
-fn unfold_score(
-    rt: &HostRuntime,
-    name: &[u8],
-    extended: &[u8],
-    i: usize,
-    made: &mut [u8],
-    m: usize,
-    out: &mut [u8],
-) -> Ending
-    requires { (length name.now ≤ 4096) × (m ≤ length made.old) × (length made.old ≡ 4096) × (8192 ≤ length out.old) }
-{
-    let mut room = [0u8; FILE_ROOM];
-    let u = unfolder::unfold(extended, &mut room);
-    let n = transcribing::unfold_line(out, name, extended, u);
-    let ended = transcribing::unfold_ending(u);
-    let size = unfolding::replied_unfolding(u).size;
-    settle(rt, out, n, ended, i, made, m, &room, size)
-}
-
-// The extended score is read whole before anything is written.
-fn unfold_named(
-    rt: &HostRuntime,
-    o: Order,
-    name: &mut [u8],
-    made: &mut [u8],
-    extended: &mut [u8],
-    out: &mut [u8],
-) -> Ending
-    requires { (length name.old ≡ 4096) × (length made.old ≡ 4096) × (8192 ≤ length out.old) }
-{
-    let from = 0;
-    let names = o.names;
-    let n = read_argument(rt, names.first, name);
-    let m = read_argument(rt, names.second, made);
-    let got = read_whole(rt, names.first, &name[from..n], extended);
-    let shown = orders::show(name, n);
-    if got.error != 0 {
-        return unread(rt, &name[from..shown], got.error);
-    }
-    let size = got.count;
-    unfold_score(
-        rt,
-        &name[from..shown],
-        &extended[from..size],
-        names.second,
-        made,
-        m,
-        out,
-    )
-}
-
-fn unfold_into(rt: &HostRuntime, o: Order, extended: &mut [u8]) -> Ending {
-    let mut name = [0u8; PATH_ROOM];
-    let mut made = [0u8; PATH_ROOM];
-    let mut out = [0u8; LINE_ROOM];
-    unfold_named(rt, o, &mut name, &mut made, extended, &mut out)
+    transcribe::<Writing>(rt, o, &mut file, &mut room)
 }
 
 // `unfold EXTENDED FILE`
 fn unfold(rt: &HostRuntime, o: Order) -> Ending {
     let mut extended = [0u8; TEXT_ROOM];
-    unfold_into(rt, o, &mut extended)
+    let mut room = [0u8; FILE_ROOM];
+    transcribe::<Unfolding>(rt, o, &mut extended, &mut room)
 }
 
 // ---- words
 
-fn help(rt: &HostRuntime, out: &mut [u8]) -> Ending
-    requires { 8192 ≤ length out.old }
-{
+fn help(rt: &HostRuntime, out: &mut [u8; LINE_ROOM]) -> Ending {
     let n = menu::help_text(out);
     orders::ending_if(streams::print(rt, out, n))
 }
 
-fn replies(rt: &HostRuntime, out: &mut [u8]) -> Ending
-    requires { 8192 ≤ length out.old }
-{
+fn replies(rt: &HostRuntime, out: &mut [u8; LINE_ROOM]) -> Ending {
     let n = wording::reply_lines(out);
     orders::ending_if(streams::print(rt, out, n))
 }
 
 // A wrong usage is told with the argument at fault, and nothing else is done. That it has failed is `ending_of`'s to say.
-fn misused(rt: &HostRuntime, o: Order, arg: &mut [u8], out: &mut [u8]) -> Ending
-    requires { (length arg.old ≡ 4096) × (8192 ≤ length out.old) }
-{
-    let from = 0;
+fn misused(
+    rt: &HostRuntime,
+    o: Order,
+    arg: &mut [u8; PATH_ROOM],
+    out: &mut [u8; LINE_ROOM],
+) -> Ending {
     let n = read_argument(rt, o.at, arg);
     let shown = orders::show(arg, n);
-    let m = orders::misuse_line(out, o, &arg[from..shown]);
+    let m = orders::misuse_line(out, o, &arg[..shown]);
     streams::say_first(rt, out, m);
     Ending::Done
 }
 
 // ---- the program
 
-fn carry_out(rt: &HostRuntime, o: Order, arg: &mut [u8], out: &mut [u8]) -> Ending
-    requires { (length arg.old ≡ 4096) × (8192 ≤ length out.old) }
-{
+fn carry_out(
+    rt: &HostRuntime,
+    o: Order,
+    arg: &mut [u8; PATH_ROOM],
+    out: &mut [u8; LINE_ROOM],
+) -> Ending {
     let mut list = [0u8; PATH_ROOM];
     let mut file = [0u8; FILE_ROOM];
     let c = o.command;
@@ -716,9 +598,12 @@ fn carry_out(rt: &HostRuntime, o: Order, arg: &mut [u8], out: &mut [u8]) -> Endi
     }
 }
 
-fn obey(rt: &HostRuntime, o: Order, arg: &mut [u8], out: &mut [u8]) -> Ending
-    requires { (length arg.old ≡ 4096) × (8192 ≤ length out.old) }
-{
+fn obey(
+    rt: &HostRuntime,
+    o: Order,
+    arg: &mut [u8; PATH_ROOM],
+    out: &mut [u8; LINE_ROOM],
+) -> Ending {
     let u = o.usage;
     match u {
         Usage::Right => carry_out(rt, o, arg, out),

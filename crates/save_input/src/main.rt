@@ -1,7 +1,7 @@
 // `save_input PATH [FROM]`: saves standard input, or the file FROM, as the file PATH, so that tests/saving can try how a file is read and saved.
 #![tactic(auto)]
 
-use disk::{FileRead, Saved};
+use disk::SaveError;
 use std::rt::{Env, HostRuntime};
 use streams::Ending;
 
@@ -33,67 +33,56 @@ fn tell(path: &[u8], what: &[u8], error: i32) -> Ending {
     Ending::Failed
 }
 
-fn tell_saved(path: &[u8], s: Saved) -> Ending {
-    match s {
-        Saved::Whole => Ending::Done,
-        Saved::NotMade(error) => tell(path, b": can't be written: not made, ", error),
-        Saved::NotWritten(error) => tell(path, b": can't be written: not written, ", error),
-        Saved::NotSafe(error) => tell(path, b": can't be written: not made safe, ", error),
-        Saved::NotRenamed(error) => tell(path, b": can't be written: not renamed, ", error),
+fn tell_saved(path: &[u8], saved: Result<(), SaveError>) -> Ending {
+    match saved {
+        Ok(()) => Ending::Done,
+        Err(SaveError::NotMade(error)) => tell(path, b": can't be written: not made, ", error),
+        Err(SaveError::NotWritten(error)) => tell(path, b": can't be written: not written, ", error),
+        Err(SaveError::NotSafe(error)) => tell(path, b": can't be written: not made safe, ", error),
+        Err(SaveError::NotRenamed(error)) => tell(path, b": can't be written: not renamed, ", error),
     }
 }
 
 // ---- what is saved
 
 fn save_part(rt: &HostRuntime, path: &[u8], bytes: &[u8], n: usize) -> Ending {
-    if bytes.len() < n {
-        return Ending::Failed;
+    match bytes.get(..n) {
+        Some(read) => tell_saved(path, disk::save(rt, path, read)),
+        None => Ending::Failed,
     }
-    let from = 0;
-    tell_saved(path, disk::save(rt, path, &bytes[from..n]))
 }
 
-fn save_read(rt: &HostRuntime, path: &[u8], bytes: &[u8], read: FileRead) -> Ending {
-    if read.error != 0 {
-        return tell(b"the input", b": can't be read: ", read.error);
+fn save_read(rt: &HostRuntime, path: &[u8], bytes: &[u8], read: Result<usize, i32>) -> Ending {
+    match read {
+        Ok(count) if ROOM <= count => tell(b"the input", b": too long: ", TOO_LARGE),
+        Ok(count) => save_part(rt, path, bytes, count),
+        Err(error) => tell(b"the input", b": can't be read: ", error),
     }
-    if ROOM <= read.count {
-        return tell(b"the input", b": too long: ", TOO_LARGE);
-    }
-    save_part(rt, path, bytes, read.count)
 }
 
 // Reads standard input, or the file that the first n bytes name.
-fn read_from(rt: &HostRuntime, from: &[u8], n: usize, buf: &mut [u8]) -> FileRead {
-    let mut input = rt.stdin();
-    if n == 0 {
+fn read_from(rt: &HostRuntime, from: &[u8], n: usize, buf: &mut [u8]) -> Result<usize, i32> {
+    if n == 0 || from.len() < n {
+        let mut input = rt.stdin();
         return disk::read_input(rt, &mut input, buf);
     }
-    if from.len() < n {
-        return disk::read_input(rt, &mut input, buf);
-    }
-    let first = 0;
-    disk::read_file(rt, &from[first..n], buf)
+    disk::read_file(rt, &from[..n], buf)
 }
 
 fn run(rt: &HostRuntime, path: &[u8], n: usize, from: &[u8], k: usize, bytes: &mut [u8]) -> Ending {
     if n == 0 {
         return tell(b"usage: save_input PATH [FROM]", b": ", INVALID);
     }
-    if path.len() < n {
+    let Some(path) = path.get(..n) else {
         return Ending::Failed;
-    }
-    let first = 0;
+    };
     let read = read_from(rt, from, k, bytes);
-    save_read(rt, &path[first..n], bytes, read)
+    save_read(rt, path, bytes, read)
 }
 
 // How many bytes the argument has: none where it is not there.
 fn argument(rt: &HostRuntime, i: usize, arg: &mut [u8]) -> usize {
-    match rt.arg(i, arg) {
-        Ok(n) => n,
-        Err(_) => 0,
-    }
+    rt.arg(i, arg).unwrap_or(0)
 }
 
 fn main(rt: HostRuntime) {

@@ -13,14 +13,13 @@ use mir.Val.{SFits, of_z, to_z}
 use mir.Facts.{to_z-of_z}
 use borrow.Author.Tests.{ne_eqb}
 use borrow.Author.Rules.{rules}
-use Rattle.std.specs.Prelude.{Result, Ok, Err, IfOk}
+use Rattle.std.specs.Prelude.{Option, Result, Ok, Err, IfOk}
+use Rattle.std.specs.declared.option.Option.TheVariants as option
 use Rattle.std.specs.Io.{ReadsAtMost}
 use Rattle.std.specs.declared.io.Error.{Error}
 use Rattle.streams.specs.declared.calls.Outcome.{Outcome}
 use Rattle.streams.specs.declared.calls.Outcome.TheVariants as outcome
-use Rattle.streams.specs.declared.reading.Got.{Got}
-use Rattle.streams.specs.declared.reading.Got.TheVariants as got
-use Rattle.streams.specs.Outcomes.{number_of, failure_of, moved_of, outcome_of, got_of, taken_of, Some, Within, Gives}
+use Rattle.streams.specs.Outcomes.{number_of, failure_of, moved_of, outcome_of, got_of, took_of, Some, Within, Gives, Takes}
 
 -- A signed number is what its bits say.
 pub bits-say : (w : Width) (z : ℤ) (n : ℕ) → SFits w z → of_z w z ≡ n → to_z w n ≡ z
@@ -100,34 +99,31 @@ read-moved old new r o e h d = rw (← e) (within-moved (length new) r o (read-a
 -- ---- how much a call gave
 
 gives : (most : ℕ) (o : Outcome) → Within most o → Gives most (got_of o)
-unfolding Within Gives
+unfolding Within
 gives most (outcome.Took n) w = w
 gives most outcome.Nothing w = tt
 gives most outcome.Again w = tt
 gives most outcome.Wait w = tt
 gives most (outcome.Failed e) w = tt
 
-takes : (most : ℕ) (o : Outcome) → Within most o → taken_of o ≤ most
+takes : (most : ℕ) (o : Outcome) → Within most o → Takes most (took_of o)
 unfolding Within
-takes most (outcome.Took n) w = w.1
-takes most outcome.Nothing w = omega arith
-takes most outcome.Again w = omega arith
-takes most outcome.Wait w = omega arith
-takes most (outcome.Failed e) w = omega arith
+takes most (outcome.Took n) w = w
+takes most outcome.Nothing w = tt
+takes most outcome.Again w = tt
+takes most outcome.Wait w = tt
+takes most (outcome.Failed e) w = tt
 
-pub gives-by : (size most : ℕ) (o : Outcome) (g : Got) → size ≡ most → Within size o → g ≡ got_of o → Gives most g
+pub gives-by : (size most : ℕ) (o : Outcome) (g : Result (Option ℕ) ℤ) → size ≡ most → Within size o → g ≡ got_of o → Gives most g
 gives-by size most o g e w d = rw (d, ← e) (gives size o w)
 
-pub gives-failed : (most : ℕ) (e : ℤ) → Gives most (got.Failed e)
-unfolding Gives
+pub gives-failed : (most : ℕ) (e : ℤ) → Gives most (Err e)
 gives-failed most e = tt
 
-pub takes-by : (most : ℕ) (o : Outcome) (n : ℕ) → Within most o → n ≡ taken_of o → n ≤ most
-takes-by most o n w d = rw d (takes most o w)
+pub takes-by : (most : ℕ) (o : Outcome) (r : Result ℕ ℤ) → Within most o → r ≡ took_of o → Takes most r
+takes-by most o r w d = rw d (takes most o w)
 
-pub ruleset giving = (gives-by, gives-failed, takes-by, rules)
+pub takes-failed : (most : ℕ) (e : ℤ) → Takes most (Err e)
+takes-failed most e = tt
 
--- Bytes that a read gave are at least one, and no more than all.
-pub bytes-some : (most n : ℕ) (g : Got) → Gives most g → g ≡ got.Bytes n → Some most n
-unfolding Gives
-bytes-some most n g h p = rw p at h
+pub ruleset giving = (gives-by, gives-failed, takes-by, takes-failed, rules)

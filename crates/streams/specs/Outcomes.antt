@@ -1,12 +1,10 @@
 -- What one call to read or write comes to, by its answer and the error number that a failure has.
-use Rattle.std.specs.Prelude.{ℕ, zero, suc, ◌≤◌, Bool, true, false, cond, eqb, ℤ, pos, negsuc, Option, Result, Ok, Err}
+use Rattle.std.specs.Prelude.{ℕ, zero, suc, ◌≤◌, Bool, true, false, cond, eqb, ℤ, pos, negsuc, Option, Result, Ok, Err, IfOk, IfSome}
 use Rattle.std.specs.declared.option.Option.TheVariants as option
 use Rattle.std.specs.IoError.{raw_os_error}
 use Rattle.std.specs.declared.io.Error.{Error}
 use Rattle.streams.specs.declared.calls.Outcome.{Outcome}
 use Rattle.streams.specs.declared.calls.Outcome.TheVariants as outcome
-use Rattle.streams.specs.declared.reading.Got.{Got}
-use Rattle.streams.specs.declared.reading.Got.TheVariants as got
 
 -- The error numbers of a call that a signal interrupted, and of one on a descriptor that is not ready.
 abbrev pub interrupted : ℕ
@@ -47,28 +45,20 @@ retried outcome.Wait = true
 retried (outcome.Failed error) = false
 
 -- What a read that is not made again gave: no bytes are the input's end.
-abbrev pub got_of : Outcome → Got
-got_of (outcome.Took n) = got.Bytes n
-got_of outcome.Nothing = got.End
-got_of outcome.Again = got.Failed (pos interrupted)
-got_of outcome.Wait = got.Failed (pos not_ready)
-got_of (outcome.Failed error) = got.Failed error
+abbrev pub got_of : Outcome → Result (Option ℕ) ℤ
+got_of (outcome.Took n) = Ok (option.Some n)
+got_of outcome.Nothing = Ok option.None
+got_of outcome.Again = Err (pos interrupted)
+got_of outcome.Wait = Err (pos not_ready)
+got_of (outcome.Failed error) = Err error
 
--- How many bytes a write that is not made again took: where it took none, it has failed.
-abbrev pub taken_of : Outcome → ℕ
-taken_of (outcome.Took n) = n
-taken_of outcome.Nothing = 0
-taken_of outcome.Again = 0
-taken_of outcome.Wait = 0
-taken_of (outcome.Failed error) = 0
-
--- The number of the failure of such a write, which one that takes none has not.
-abbrev pub refusal_of : Outcome → ℤ
-refusal_of (outcome.Took n) = pos 0
-refusal_of outcome.Nothing = pos 0
-refusal_of outcome.Again = pos interrupted
-refusal_of outcome.Wait = pos not_ready
-refusal_of (outcome.Failed error) = error
+-- How many bytes a write that is not made again took, or the number of its failure: where it took none, it has failed, with no number.
+abbrev pub took_of : Outcome → Result ℕ ℤ
+took_of (outcome.Took n) = Ok n
+took_of outcome.Nothing = Err (pos 0)
+took_of outcome.Again = Err (pos interrupted)
+took_of outcome.Wait = Err (pos not_ready)
+took_of (outcome.Failed error) = Err error
 
 -- Of most bytes handed in, at least one and no more than all.
 abbrev pub Some : ℕ → ℕ → Type 0
@@ -81,7 +71,8 @@ Within most outcome.Again = Unit {0}
 Within most outcome.Wait = Unit {0}
 Within most (outcome.Failed error) = Unit {0}
 
-unfoldable pub Gives : ℕ → Got → Type 0
-Gives most (got.Bytes n) = Some most n
-Gives most got.End = Unit {0}
-Gives most (got.Failed error) = Unit {0}
+abbrev pub Gives : ℕ → Result (Option ℕ) ℤ → Type 0
+Gives most got = IfOk got (λ n. IfSome n (Some most))
+
+abbrev pub Takes : ℕ → Result ℕ ℤ → Type 0
+Takes most took = IfOk took (Some most)

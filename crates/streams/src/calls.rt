@@ -29,10 +29,7 @@ pub enum Outcome {
 pub fn error_number(e: std::io::Error) -> i32
     ensures { result ≡ number_of e }
 {
-    match e.raw_os_error() {
-        Some(error) => error,
-        None => 0,
-    }
+    e.raw_os_error().unwrap_or(0)
 }
 
 // A call that failed: "interrupted" is no failure, nor is "not ready".

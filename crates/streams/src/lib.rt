@@ -3,9 +3,9 @@
 
 pub use calls::error_number;
 pub use ending::{Ending, status_of, tell_ending};
-pub use reading::{Filled, Got, read_some, read_whole};
+pub use reading::{Broken, read_some, read_whole};
 pub use saying::{print, say, say_first};
-pub use writing::{Written, write_whole};
+pub use writing::write_whole;
 
 mod calls;
 mod ending;

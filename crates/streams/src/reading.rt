@@ -1,24 +1,15 @@
 // Reading bytes from the system.
-ghost use Rattle.std.specs.Prelude.{◌-◌, ◌≤◌, ◌≡◌, length, take};
+ghost use Rattle.std.specs.Prelude.{◌-◌, ◌≤◌, ◌≡◌, length, take, MatchResult};
 ghost use Rattle.streams.specs.Outcomes.{Within, Gives, got_of};
 
 use crate::calls::{INTERRUPTED, MOST_TRIES, NOT_READY, Outcome, came_to, retry};
 use std::io::Read;
 use std::rt::Clock;
 
-// What a read gave: bytes at the buffer's start, at least one; the input's end; or a failure, with its number.
+// A read that failed before the buffer was full and before the input ended: how many bytes stand at the buffer's start all the same, and the failure's number.
 #[derive(Clone, Copy)]
-pub enum Got {
-    Bytes(usize),
-    End,
-    Failed(i32),
-}
-
-// How many bytes stand at the buffer's start, and whether a read failed before it was full and before the input ended: then with this number.
-#[derive(Clone, Copy)]
-pub struct Filled {
+pub struct Broken {
     pub count: usize,
-    pub failed: bool,
     pub error: i32,
 }
 
@@ -29,35 +20,42 @@ fn try_read<R: Read>(from: &mut R, buf: &mut [u8]) -> Outcome
     came_to(got)
 }
 
-fn got_by(o: Outcome) -> Got
+fn got_by(o: Outcome) -> Result<Option<usize>, i32>
     ensures { result ≡ got_of o }
 {
     match o {
-        Outcome::Took(n) => Got::Bytes(n),
-        Outcome::Nothing => Got::End,
-        Outcome::Again => Got::Failed(INTERRUPTED),
-        Outcome::Wait => Got::Failed(NOT_READY),
-        Outcome::Failed(error) => Got::Failed(error),
+        Outcome::Took(n) => Ok(Some(n)),
+        Outcome::Nothing => Ok(None),
+        Outcome::Again => Err(INTERRUPTED),
+        Outcome::Wait => Err(NOT_READY),
+        Outcome::Failed(error) => Err(error),
     }
 }
 
-// One read, made again where it is interrupted, and after a millisecond where nothing has come yet.
-pub fn read_some<R: Read>(rt: &impl Clock, from: &mut R, buf: &mut [u8]) -> Got
+// One read, made again where it is interrupted, and after a millisecond where nothing has come yet: how many bytes stand at the buffer's start, at least one, or none at the input's end; or the failure's number.
+pub fn read_some<R: Read>(
+    rt: &impl Clock,
+    from: &mut R,
+    buf: &mut [u8],
+) -> Result<Option<usize>, i32>
     ensures { Gives (length buf.old) result }
 {
-    let mut tries: u64 = 0;
-    while tries < MOST_TRIES {
+    for _ in 0..MOST_TRIES {
         let o = try_read(from, buf);
         if !retry(rt, o) {
             return got_by(o);
         }
-        tries += 1;
     }
-    Got::Failed(NOT_READY)
+    Err(NOT_READY)
 }
 
 // One read behind the first `done` bytes, which stay.
-fn read_behind<R: Read>(rt: &impl Clock, from: &mut R, buf: &mut [u8], done: usize) -> Got
+fn read_behind<R: Read>(
+    rt: &impl Clock,
+    from: &mut R,
+    buf: &mut [u8],
+    done: usize,
+) -> Result<Option<usize>, i32>
     requires { done ≤ length buf.old }
     ensures gives { Gives (length buf.old - done) result }
     ensures buf_unchanged { take done buf.new ≡ take done buf.old }
@@ -65,32 +63,22 @@ fn read_behind<R: Read>(rt: &impl Clock, from: &mut R, buf: &mut [u8], done: usi
     read_some(rt, from, &mut buf[done..])
 }
 
-// Reads until the buffer is full, the input ends or a read fails.
-pub fn read_whole<R: Read>(rt: &impl Clock, from: &mut R, buf: &mut [u8]) -> Filled
-    ensures { result.count ≤ length buf.new }
+// Reads until the buffer is full, the input ends or a read fails: how many bytes stand at the buffer's start.
+pub fn read_whole<R: Read>(
+    rt: &impl Clock,
+    from: &mut R,
+    buf: &mut [u8],
+) -> Result<usize, Broken>
+    ensures { MatchResult result (λ n. n ≤ length buf.new) (λ b. b.count ≤ length buf.new) }
 {
+    // A `while`, since how far a turn gets is the read's answer.
     let mut done = 0;
     while done < buf.len() {
-        let got = read_behind(rt, from, buf, done);
-        if let Got::Failed(error) = got {
-            return Filled {
-                count: done,
-                failed: true,
-                error,
-            };
+        match read_behind(rt, from, buf, done) {
+            Ok(Some(n)) => done += n,
+            Ok(None) => return Ok(done),
+            Err(error) => return Err(Broken { count: done, error }),
         }
-        let Got::Bytes(n) = got else {
-            return Filled {
-                count: done,
-                failed: false,
-                error: 0,
-            };
-        };
-        done += n;
     }
-    Filled {
-        count: done,
-        failed: false,
-        error: 0,
-    }
+    Ok(done)
 }

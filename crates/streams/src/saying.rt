@@ -12,24 +12,22 @@ const WORDS_ROOM: usize = 256;
 // Writes bytes to standard error. Nothing is to be done where they are not taken.
 pub fn say(rt: &HostRuntime, what: &[u8]) {
     let mut errors = rt.stderr();
-    write_whole(rt, &mut errors, what);
+    let _ = write_whole(rt, &mut errors, what);
 }
 
 // The first n bytes of a line to standard error.
 pub fn say_first(rt: &HostRuntime, text: &[u8], n: usize) {
-    if text.len() < n {
-        return;
+    if let Some(line) = text.get(..n) {
+        say(rt, line);
     }
-    let from = 0;
-    say(rt, &text[from..n]);
 }
 
 // The system's own words for an error, among the first n bytes: std puts the number behind them, in brackets.
 fn words(text: &[u8], n: usize) -> &[u8] {
-    if text.len() < n {
+    let Some(first) = text.get(..n) else {
         return b"";
-    }
-    let Ok(told) = str::from_utf8(&text[..n]) else {
+    };
+    let Ok(told) = str::from_utf8(first) else {
         return b"";
     };
     match told.split_once(" (os error ") {
@@ -54,15 +52,13 @@ fn say_failed(rt: &HostRuntime, what: &[u8], error: i32) {
 pub fn print(rt: &HostRuntime, out: &[u8], n: usize) -> bool
     ensures { length out.now < n → result ≡ false }
 {
-    if out.len() < n {
+    let Some(laid) = out.get(..n) else {
         return false;
-    }
-    let from = 0;
+    };
     let mut output = rt.stdout();
-    let written = write_whole(rt, &mut output, &out[from..n]);
-    if written.whole {
-        return true;
+    let written = write_whole(rt, &mut output, laid);
+    if let Err(error) = written {
+        say_failed(rt, b"standard output: can't be written", error);
     }
-    say_failed(rt, b"standard output: can't be written", written.error);
-    false
+    written.is_ok()
 }

@@ -1,24 +1,13 @@
 // Writing bytes to the system.
-ghost use Rattle.std.specs.Prelude.{◌≤◌, ◌≡◌, true, length};
-ghost use Rattle.streams.specs.Outcomes.{Within, taken_of, refusal_of};
+ghost use Rattle.std.specs.Prelude.{◌≡◌, length};
+ghost use Rattle.streams.specs.Outcomes.{Within, Takes, took_of};
 
 use crate::calls::{INTERRUPTED, MOST_TRIES, NOT_READY, Outcome, came_to, retry};
 use std::io::Write;
 use std::rt::Clock;
 
-// How many bytes were taken, and the number of the failure that stopped the writing, or 0.
-#[derive(Clone, Copy)]
-struct Wrote {
-    count: usize,
-    error: i32,
-}
-
-// Whether all the bytes were taken; where they were not, with this number.
-#[derive(Clone, Copy)]
-pub struct Written {
-    pub whole: bool,
-    pub error: i32,
-}
+// The number of a write that takes no bytes, which has failed: the system gives it none.
+const NO_NUMBER: i32 = 0;
 
 fn try_write<W: Write>(to: &mut W, bytes: &[u8]) -> Outcome
     ensures { Within (length bytes.now) result }
@@ -27,82 +16,41 @@ fn try_write<W: Write>(to: &mut W, bytes: &[u8]) -> Outcome
     came_to(got)
 }
 
-// How many bytes were taken; a write that takes none has failed.
-fn taken(o: Outcome) -> usize
-    ensures { result ≡ taken_of o }
+// How many bytes were taken, or the number of the failure.
+fn took(o: Outcome) -> Result<usize, i32>
+    ensures { result ≡ took_of o }
 {
     match o {
-        Outcome::Took(n) => n,
-        Outcome::Nothing => 0,
-        Outcome::Again => 0,
-        Outcome::Wait => 0,
-        Outcome::Failed(_) => 0,
+        Outcome::Took(n) => Ok(n),
+        Outcome::Nothing => Err(NO_NUMBER),
+        Outcome::Again => Err(INTERRUPTED),
+        Outcome::Wait => Err(NOT_READY),
+        Outcome::Failed(error) => Err(error),
     }
 }
 
-// The number of the failure, which a write that takes none has not.
-fn refusal(o: Outcome) -> i32
-    ensures { result ≡ refusal_of o }
+// One write, made again where it is interrupted, and after a millisecond where there is no room yet: how many bytes it took, at least one, or the number of the failure.
+fn write_some<W: Write>(rt: &impl Clock, to: &mut W, bytes: &[u8]) -> Result<usize, i32>
+    ensures { Takes (length bytes.now) result }
 {
-    match o {
-        Outcome::Took(_) => 0,
-        Outcome::Nothing => 0,
-        Outcome::Again => INTERRUPTED,
-        Outcome::Wait => NOT_READY,
-        Outcome::Failed(error) => error,
-    }
-}
-
-// One write, made again where it is interrupted, and after a millisecond where there is no room yet: how many bytes it took, 0 where it failed.
-fn write_some<W: Write>(rt: &impl Clock, to: &mut W, bytes: &[u8]) -> Wrote
-    ensures { result.count ≤ length bytes.now }
-{
-    let mut tries: u64 = 0;
-    while tries < MOST_TRIES {
+    for _ in 0..MOST_TRIES {
         let o = try_write(to, bytes);
         if !retry(rt, o) {
-            return Wrote {
-                count: taken(o),
-                error: refusal(o),
-            };
+            return took(o);
         }
-        tries += 1;
     }
-    Wrote {
-        count: 0,
-        error: NOT_READY,
-    }
+    Err(NOT_READY)
 }
 
-// Writes the bytes one behind the other until a write fails: how many were taken.
-fn write_on<W: Write>(rt: &impl Clock, to: &mut W, bytes: &[u8]) -> Wrote
-    ensures { result.count ≤ length bytes.now }
+// Writes all the bytes, one behind the other, until a write fails: then with its number, which is 0 for a write that took none.
+pub fn write_whole<W: Write>(rt: &impl Clock, to: &mut W, bytes: &[u8]) -> Result<(), i32>
+    ensures { length bytes.now ≡ 0 → result ≡ Ok tt }
 {
-    let mut done = 0;
-    while done < bytes.len() {
-        let step = write_some(rt, to, &bytes[done..]);
-        let n = step.count;
-        if n == 0 {
-            return Wrote {
-                count: done,
-                error: step.error,
-            };
-        }
-        done += n;
+    // A `while`, since how far a turn gets is the write's answer.
+    let mut rest = bytes;
+    while !rest.is_empty() {
+        let n = write_some(rt, to, rest)?;
+        rest = &rest[n..];
     }
-    Wrote {
-        count: done,
-        error: 0,
-    }
-}
-
-// Writes all the bytes, and answers whether all were taken.
-pub fn write_whole<W: Write>(rt: &impl Clock, to: &mut W, bytes: &[u8]) -> Written
-    ensures { length bytes.now ≡ 0 → result.whole ≡ true }
-{
-    let done = write_on(rt, to, bytes);
-    Written {
-        whole: done.count == bytes.len(),
-        error: done.error,
-    }
+    Ok(())
 }

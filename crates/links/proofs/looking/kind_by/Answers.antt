@@ -3,14 +3,14 @@
 use Rattle.links.proofs.LookSteps.{kinds}
 use Rattle.links.proofs.looking.kind_by.Goals as goal
 
-pub returns-then-form-eq-REGULAR : goal.returns-then-form-eq-REGULAR
-returns-then-form-eq-REGULAR c = search kinds
+pub returns-in-32768 : goal.returns-in-32768
+returns-in-32768 c = search kinds
 
-pub returns-then-form-eq-FOLDER : goal.returns-then-form-eq-FOLDER
-returns-then-form-eq-FOLDER c = search kinds
+pub returns-in-16384 : goal.returns-in-16384
+returns-in-16384 c = search kinds
 
-pub returns-then-form-eq-LINK : goal.returns-then-form-eq-LINK
-returns-then-form-eq-LINK c = search kinds
+pub returns-in-40960 : goal.returns-in-40960
+returns-in-40960 c = search kinds
 
-pub returns : goal.returns
-returns c = search kinds
+pub returns-in_default : goal.returns-in_default
+returns-in_default c = search kinds

@@ -3,14 +3,8 @@
 use Rattle.links.proofs.PathSteps.{keeping}
 use Rattle.links.proofs.paths.kept_size.Goals as goal
 
-pub begins-requires : goal.begins-requires
-begins-requires c = search keeping
-
 pub returns-then-begins : goal.returns-then-begins
 returns-then-begins c = search keeping
-
-pub folder_size-requires : goal.folder_size-requires
-folder_size-requires c = search keeping
 
 pub returns : goal.returns
 returns c = search keeping
