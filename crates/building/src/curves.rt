@@ -1,4 +1,5 @@
 // The actions that a curve's values are.
+// The rooms are lent and nothing allocates, so the byte at which the next one goes stands beside its room.
 ghost use Rattle.std.specs.Prelude.{◌≡◌, [], ◌∷◌, ◌+◌, ◌*◌, ◌≤◌, ◌<◌, length};
 ghost use Rattle.ascii.specs.Laying.{Laid};
 ghost use Rattle.contents.specs.Limits.{item_size};

@@ -1,4 +1,5 @@
 // The group that a group, a loop or a curve becomes, and the groups that a loop's passes are.
+// The rooms are lent and nothing allocates, so the byte at which the next one goes stands beside its room.
 ghost use Rattle.std.specs.Prelude.{◌≡◌, [], ◌∷◌, ◌+◌, ◌≤◌, ◌<◌, length};
 ghost use Rattle.ascii.specs.Laying.{Laid};
 ghost use Rattle.contents.specs.Limits.{item_size, most_items};

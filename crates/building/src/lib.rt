@@ -11,6 +11,8 @@ ghost use Rattle.shapes.specs.Shapes.{shapes_from};
 ghost use Rattle.unfolding.specs.Unfolded.{unfolded, items, actions, depth, page};
 ghost use Rattle.building.specs.Rows.{numbered_in, shapes_of};
 
+use pages::{Source, build_items};
+
 mod curves;
 mod groups;
 mod pages;
@@ -29,5 +31,11 @@ pub fn build_page(
     requires { (start + folded_size * count ≤ length file.now) × (row_words * count ≤ length table.now) × (shapes_from table.now 0 count ≡ shapes_of (numbered_in file.now start table.now numbers.now 0 count)) × (items (unfolded (numbered_in file.now start table.now numbers.now 0 count)) ≤ most_items) × (actions (unfolded (numbered_in file.now start table.now numbers.now 0 count)) ≤ most_actions) × (depth (unfolded (numbered_in file.now start table.now numbers.now 0 count)) ≤ deepest) × (item_size * items (unfolded (numbered_in file.now start table.now numbers.now 0 count)) ≤ length out.old) }
     ensures { Laid out.old 0 (item_bytes (page (unfolded (numbered_in file.now start table.now numbers.now 0 count)))) out.new result }
 {
-    pages::build_items(file, start, table, numbers, 0, count, 0, out, 0)
+    let s = Source {
+        file,
+        start,
+        table,
+        numbers,
+    };
+    build_items(s, 0, count, 0, out, 0)
 }

@@ -1,4 +1,5 @@
 // "Item: 20 bytes [..]: the 12 of document 01, then `each` (u32) and `times` (u16), then two bytes of 0"
+// The bytes are read in place, so a file and the byte at which something stands go together.
 ghost use Rattle.std.specs.Prelude.{◌≡◌, ◌+◌, ◌≤◌, ◌<◌, length};
 ghost use Rattle.contents.specs.Bytes.{u32_at};
 ghost use Rattle.units.specs.declared.Grains.{Grains};

@@ -1,4 +1,5 @@
 // The values one after the other.
+// The list stands in lent rooms that it doesn't fill and nothing allocates, so how many messages and bytes of text there are stands beside them.
 ghost use Rattle.std.specs.Prelude.{◌≡◌, ◌<◌, map, take};
 ghost use Rattle.values.specs.Inner.{value_of};
 ghost use Rattle.unfolding.specs.Extended.{extended_of};

@@ -1,4 +1,5 @@
 // The score's own messages, copied to the fronts of lent bytes, and whether each of them lies within the text.
+// The list stands in lent rooms that it doesn't fill and nothing allocates, so how many messages and bytes of text there are stands beside them.
 ghost use Rattle.std.specs.Prelude.{◌≡◌, ◌+◌, ◌*◌, ◌≤◌, length};
 ghost use Rattle.contents.specs.Limits.{message_size, most_messages, most_text};
 ghost use Rattle.extended.specs.Inner.{Foldable};

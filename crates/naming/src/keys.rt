@@ -1,4 +1,5 @@
 // A key for each message, so that labels are compared as one number: two values' digits have one key only where they are the same.
+// The list stands in lent rooms that it doesn't fill and nothing allocates, so how many messages and bytes of text there are stands beside them.
 ghost use Rattle.std.specs.Prelude.{◌≡◌, ◌+◌, ◌*◌, ◌<◌, ◌≤◌, length, take};
 ghost use Rattle.contents.specs.Limits.{message_size, most_messages};
 ghost use Rattle.unfolding.specs.Messages.{entries_from};

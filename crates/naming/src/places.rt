@@ -1,4 +1,5 @@
 // A value's place in the list: its message's number there, or the one that it gets at the end.
+// The list stands in lent rooms that it doesn't fill and nothing allocates, so how many messages and bytes of text there are stands beside them.
 ghost use Rattle.std.specs.Prelude.{◌<◌, ◌≤◌, length};
 ghost use Rattle.values.specs.Integers.{whole_range};
 ghost use Rattle.values.specs.Inner.{value_of, most_digits};

@@ -1,4 +1,5 @@
 // The first message with just these bytes: "A value's message is the first one of the list, as it then stands, with just those bytes".
+// The list stands in lent rooms that it doesn't fill and nothing allocates, so how many messages and bytes of text there are stands beside them.
 ghost use Rattle.std.specs.Prelude.{◌≡◌, ◌+◌, ◌*◌, ◌≤◌, ◌<◌, length};
 ghost use Rattle.contents.specs.Limits.{message_size};
 ghost use Rattle.unfolding.specs.Messages.{is_named, entries_from, number_in};
@@ -16,6 +17,7 @@ fn find_key(keys: &mut [u64], n: usize, key: u64) -> usize
 {
     keys[n] = key;
     let mut at = 0;
+    // By place, since the key that was put there ends the search: `position` would test the end, too, and answer an Option that is never None.
     while keys[at] != key {
         at += 1;
     }

@@ -12,7 +12,8 @@ use contents::limits::{DEEPEST, MOST_ACTIONS, MOST_ITEMS};
 // A shape has the first three words of its row.
 pub const ROW_WORDS: usize = 4;
 
-// An item's shape: its kind (0 action, 1 group, 2 loop, 3 curve), the items within it, and how many passes or values it has.
+// An item's shape: its kind (0 action, 1 group, 2 loop, 3 curve: the file's own number, as the definitions of shapes read it), the items within it, and how many
+// passes or values it has.
 #[derive(Clone, Copy)]
 pub struct Shape {
     pub kind: usize,

@@ -1,5 +1,6 @@
 // How many values a curve has, found without making them: a span of so many steps has so many, and the last point closes the curve. A curve has less than 2^16
 // points and a span less than 2^32 steps, so nothing wraps.
+// The bytes are read in place, so a file and the byte at which something stands go together.
 ghost use Rattle.std.specs.Prelude.{◌≡◌, ◌+◌, ◌/◌, ◌≤◌, ◌<◌, length};
 ghost use Rattle.values.specs.Curves.{curve_values};
 ghost use Rattle.contents.specs.Limits.{most_actions};

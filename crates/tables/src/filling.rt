@@ -1,4 +1,5 @@
 // The values of all curves, raised, one behind the other.
+// The rooms are lent and nothing allocates, so how many words are filled, and the byte that is read, stand beside their slices.
 ghost use Rattle.std.specs.Prelude.{[], ◌∷◌, ◌+◌, ◌/◌, ◌≤◌, ◌<◌, length};
 ghost use Rattle.contents.specs.Limits.{most_actions};
 ghost use Rattle.values.specs.Integers.{whole_range};

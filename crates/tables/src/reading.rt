@@ -1,4 +1,5 @@
 // What is read of an extended score that can be unfolded: its items by number, and the points of its curves.
+// The bytes are read in place, so a file and the byte at which something stands go together.
 ghost use Rattle.std.specs.Prelude.{◌≡◌, ◌+◌, ◌*◌, ◌≤◌, ◌<◌, length};
 ghost use Rattle.values.specs.Integers.{whole_range};
 ghost use Rattle.values.specs.Inner.{value_of};

@@ -1,4 +1,5 @@
 // The table of an extended score's items: a row of four words for each.
+// The rooms are lent and nothing allocates, so how many words are filled, and the byte that is read, stand beside their slices.
 ghost use Rattle.std.specs.Prelude.{◌≡◌, [], ◌∷◌, ◌+◌, ◌*◌, ◌≤◌, ◌<◌, length};
 ghost use Rattle.ascii.specs.Laying.{Laid};
 ghost use Rattle.contents.specs.Limits.{most_items};

@@ -1,4 +1,5 @@
 // The message list with the values of the curves, and the page with their numbers.
+// The rooms have fixed sizes, so how much of each is filled stands beside it.
 ghost use Rattle.std.specs.Prelude.{◌≤◌, length};
 ghost use Rattle.contents.specs.Limits.{most_actions, longest_score};
 ghost use Rattle.filing.specs.Bodies.{ListRoom};

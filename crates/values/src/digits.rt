@@ -1,4 +1,5 @@
 // "Each is sent as a message of its decimal digits, with a minus sign below 0"
+// The rooms are lent and nothing allocates, so the byte at which the next one goes stands beside its room.
 ghost use Rattle.std.specs.Prelude.{◌+◌, ◌<◌, ◌≤◌, length};
 ghost use Rattle.ascii.specs.Laying.{Laid};
 ghost use Rattle.values.specs.Integers.{whole_range};

@@ -8,8 +8,8 @@ use Rattle.building.proofs.pages.+build_item_build_items_build_loop_build_passes
 pub build_item-overflow_mul-k : goal.build_item-overflow_mul-k
 build_item-overflow_mul-k t c = search item-built
 
-pub build_item-overflow_add-start : goal.build_item-overflow_add-start
-build_item-overflow_add-start t c = search item-built
+pub build_item-overflow_add-s : goal.build_item-overflow_add-s
+build_item-overflow_add-s t c = search item-built
 
 pub build_item-folded_at-i-requires : goal.build_item-folded_at-i-requires
 build_item-folded_at-i-requires t c = search item-built

@@ -21,8 +21,8 @@ decreases-build_items l = 4 * (9 - l.d) + 3
 
 abbrev pub invariant-build_items-loop-left : goal.invariant-build_items-loop-left
 invariant-build_items-loop-left l =
-    (l.i + l.left ≡ l.k + l.count) × (l.left ≤ l.count) × (length l.out ≡ length l.initial.out) × Tabled l.file l.start l.table l.numbers l.i l.left
-    × Buildable (length l.out) l.at l.d (unfolded (numbered_in l.file l.start l.table l.numbers l.i l.left)) × Goes l.file l.start l.table l.numbers l.k l.count l.initial.out l.to l.out l.i l.left l.at
+    (l.i + l.left ≡ l.k + l.count) × (l.left ≤ l.count) × (length l.out ≡ length l.initial.out) × Tabled l.s.file.now l.s.start l.s.table.now l.s.numbers.now l.i l.left
+    × Buildable (length l.out) l.at l.d (unfolded (numbered_in l.s.file.now l.s.start l.s.table.now l.s.numbers.now l.i l.left)) × Goes l.s.file.now l.s.start l.s.table.now l.s.numbers.now l.k l.count l.initial.out l.to l.out l.i l.left l.at
 
 abbrev pub decreases-build_items-loop-left : goal.decreases-build_items-loop-left
 decreases-build_items-loop-left l = l.left
@@ -35,5 +35,5 @@ decreases-build_passes l = 4 * (9 - l.d)
 
 abbrev pub invariant-build_passes-loop : goal.invariant-build_passes-loop
 invariant-build_passes-loop l =
-    (l.counter ≤ l.times) × Laid l.initial.out l.to (page_bytes (passes l.item l.period 0 l.counter (unfolded (numbered_in l.file l.start l.table l.numbers l.k l.body)))) l.out l.at
-    × (l.at + item_size * ((l.times - l.counter) * (1 + items (unfolded (numbered_in l.file l.start l.table l.numbers l.k l.body)))) ≤ length l.initial.out) × (l.delay ≡ delay_of 0 l.period l.counter) × (l.delay < word_range)
+    (l.counter ≤ l.times) × Laid l.initial.out l.to (page_bytes (passes l.item l.period 0 l.counter (unfolded (numbered_in l.s.file.now l.s.start l.s.table.now l.s.numbers.now l.k l.body)))) l.out l.at
+    × (l.at + item_size * ((l.times - l.counter) * (1 + items (unfolded (numbered_in l.s.file.now l.s.start l.s.table.now l.s.numbers.now l.k l.body)))) ≤ length l.initial.out) × (l.delay ≡ delay_of 0 l.period l.counter) × (l.delay < word_range)
