@@ -7,7 +7,7 @@ ghost use Rattle.fates.specs.Places.{PlacesFit, items_in};
 ghost use Rattle.evaluators.specs.Inner.{Lent, Dated, owed, sequence_done, Advanced};
 
 use crate::walk;
-use fates::{Places, words};
+use fates::{PlacedWords, Places, words};
 use rules::{ErrorWord, Fate, Synchrony, Taken};
 use units::Grains;
 
@@ -66,8 +66,12 @@ fn sequence(mem: &mut [u64], t: Places, at: usize, count: usize, i: usize)
     requires { Lent t mem.old at count × (i ≤ 256) }
     ensures { mem.new ≡ sequence_done t mem.old levels at count i }
 {
-    let taken = words::taken_of(mem, t, i);
-    let start = words::start_of(mem, t, i);
+    let r = PlacedWords {
+        words: &*mem,
+        places: t,
+    };
+    let taken = words::taken_of(r, i);
+    let start = words::start_of(r, i);
     match taken {
         Taken::Heard => walk::heard_body(
             mem,

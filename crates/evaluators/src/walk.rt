@@ -5,7 +5,7 @@ ghost use Rattle.rules.specs.Rules.{heard_group, missed_group, enter};
 ghost use Rattle.fates.specs.Fates.{FateBounded};
 ghost use Rattle.evaluators.specs.Inner.{latest_at, item_word_at, Lent, Dated, owed, Stepped, still};
 
-use fates::{Places, outcomes, running, words};
+use fates::{PlacedWords, Places, outcomes, running, words};
 use rules::{ErrorWord, Fate, Synchrony};
 use units::Grains;
 
@@ -86,7 +86,11 @@ pub fn heard_body(
         let from = t.items + place;
         let w = mem[from];
         date = Grains(date.0 + words::delay_in(w).0);
-        let f = running::heard_fate(mem, t, y, e, i, date);
+        let r = PlacedWords {
+            words: &*mem,
+            places: t,
+        };
+        let f = running::heard_fate(r, y, e, i, date);
         let n = item(mem, t, levels, place, left, w, f);
         place += n;
         left -= n;
@@ -116,7 +120,11 @@ pub fn missed_body(
         let from = t.items + place;
         let w = mem[from];
         after = Grains(after.0 + words::delay_in(w).0);
-        let f = running::missed_fate(mem, t, y, e, j, start, after);
+        let r = PlacedWords {
+            words: &*mem,
+            places: t,
+        };
+        let f = running::missed_fate(r, y, e, j, start, after);
         let n = item(mem, t, levels, place, left, w, f);
         place += n;
         left -= n;

@@ -1,6 +1,9 @@
 // The rules of performance for one item, carried out over lent words, wherever they stand: how it runs by what holds it, and the word for its outcome.
 #![tactic(auto)]
 
+ghost use Rattle.std.specs.Prelude.{length};
+ghost use Rattle.fates.specs.Places.{PlacesFit};
+
 use units::Grains;
 
 pub mod words; // words.rt: the fields of a word
@@ -19,4 +22,12 @@ pub struct Places {
     pub events: usize,
     pub size: usize,
     pub grace: Grains,
+}
+
+// Lent words that are read, and places that lie within them.
+#[derive(Clone, Copy)]
+pub struct PlacedWords<'a> {
+    pub words: &'a [u64],
+    pub places: Places,
+    ghost fit: { PlacesFit places (length words.now) },
 }

@@ -4,7 +4,7 @@ ghost use Rattle.fates.specs.Fields.{delay_numbers, start_numbers, item_in, item
 ghost use Rattle.fates.specs.Places.{PlacesFit, reading_in};
 ghost use Rattle.fates.specs.Fates.{next_of};
 
-use crate::Places;
+use crate::PlacedWords;
 use page::Item;
 use rules::Taken;
 use units::Grains;
@@ -50,21 +50,21 @@ pub fn item_word(i: Item) -> u64
 }
 
 // E(k).
-pub fn start_of(mem: &[u64], t: Places, k: usize) -> Grains
-    requires { PlacesFit t (length mem.now) × (k ≤ 256) }
-    ensures { (result.0 ≡ (reading_in t mem.now).start k) × (result.0 < start_numbers) }
+pub fn start_of(r: PlacedWords<'_>, k: usize) -> Grains
+    requires { (k ≤ 256) }
+    ensures { (result.0 ≡ (reading_in r.entry.places r.entry.words.now).start k) × (result.0 < start_numbers) }
 {
-    let at = t.starts + k;
-    Grains(mem[at] % START_NUMBERS)
+    let at = r.places.starts + k;
+    Grains(r.words[at] % START_NUMBERS)
 }
 
 // What has become of event k.
-pub fn taken_of(mem: &[u64], t: Places, k: usize) -> Taken
-    requires { PlacesFit t (length mem.now) × (k ≤ 256) }
-    ensures { (result ≡ (reading_in t mem.now).became k) × (next_of result ≤ 256) }
+pub fn taken_of(r: PlacedWords<'_>, k: usize) -> Taken
+    requires { (k ≤ 256) }
+    ensures { (result ≡ (reading_in r.entry.places r.entry.words.now).became k) × (next_of result ≤ 256) }
 {
-    let at = t.taken + k;
-    let next = (mem[at] % EVENT_NUMBERS) as usize;
+    let at = r.places.taken + k;
+    let next = (r.words[at] % EVENT_NUMBERS) as usize;
     if next == 0 {
         return Taken::Unsettled;
     }

@@ -6,11 +6,11 @@ use Rattle.fates.proofs.words.taken_of.Goals as goal
 pub overflow_add-at : goal.overflow_add-at
 overflow_add-at c = search reads
 
-pub offset_bounds-mem-at : goal.offset_bounds-mem-at
-offset_bounds-mem-at c = search reads
+pub offset_bounds-r-at : goal.offset_bounds-r-at
+offset_bounds-r-at c = search reads
 
-pub bounds-mem-at : goal.bounds-mem-at
-bounds-mem-at c = search reads
+pub bounds-r-at : goal.bounds-r-at
+bounds-r-at c = search reads
 
 pub returns-then-next-eq0 : goal.returns-then-next-eq0
 returns-then-next-eq0 c = search reads
