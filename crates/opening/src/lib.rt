@@ -30,6 +30,13 @@ pub struct OpeningReply {
     pub parts: u32,
 }
 
+// The bytes of a score file that the check accepts.
+#[derive(Clone, Copy)]
+struct AcceptedFile<'a> {
+    bytes: &'a [u8],
+    ghost accepted: { Accepted bytes.now },
+}
+
 // "Words past 8,192 are never read or changed."
 fn clear(mem: &mut [u64])
     requires { memory_size ≤ length mem.old }
@@ -52,35 +59,35 @@ fn put_header(mem: &mut [u64], events: usize, items: usize, parts: u16, tempo: u
 }
 
 // E(k) at place k, for each event of the file.
-fn put_starts(mem: &mut [u64], file: &[u8], events: usize)
-    requires { (memory_size ≤ length mem.old) × Accepted file.now × (events ≡ (counts_of file.now).events) × (events ≤ most_events) }
-    ensures { mem.new ≡ with_words (starts_at + 1) (starts_of 0 (decode file.now).durations) mem.old }
+fn put_starts(mem: &mut [u64], file: AcceptedFile<'_>, events: usize)
+    requires { (memory_size ≤ length mem.old) × (events ≡ (counts_of file.bytes.now).events) × (events ≤ most_events) }
+    ensures { mem.new ≡ with_words (starts_at + 1) (starts_of 0 (decode file.entry.bytes.now).durations) mem.old }
 {
     let mut sum = Grains(0);
     for k in 0..events {
         mem[STARTS_AT + 1 + k] = sum.0;
-        let d = score::duration(file, k);
+        let d = score::duration(file.bytes, k);
         sum = Grains(sum.0 + d.0);
     }
 }
 
 // A word for each item of the file.
-fn put_page(mem: &mut [u64], file: &[u8], items: usize)
-    requires { (memory_size ≤ length mem.old) × Accepted file.now × (items ≡ (counts_of file.now).items) × (items ≤ most_items) }
-    ensures { mem.new ≡ with_words page_at (map item_word (decode file.now).items) mem.old }
+fn put_page(mem: &mut [u64], file: AcceptedFile<'_>, items: usize)
+    requires { (memory_size ≤ length mem.old) × (items ≡ (counts_of file.bytes.now).items) × (items ≤ most_items) }
+    ensures { mem.new ≡ with_words page_at (map item_word (decode file.entry.bytes.now).items) mem.old }
 {
     for p in 0..items {
-        mem[PAGE_AT + p] = item_word(score::read_item(file, p));
+        mem[PAGE_AT + p] = item_word(score::read_item(file.bytes, p));
     }
 }
 
 // The words of a new session on an accepted file.
-fn begin(mem: &mut [u64], file: &[u8], parts: u16, tempo: u64, grace: u64)
-    requires { (memory_size ≤ length mem.old) × Accepted file.now }
-    ensures { mem.new ≡ new_session (decode file.now) (record { parts = parts; tempo = tempo; grace = grace }) mem.old }
+fn begin(mem: &mut [u64], file: AcceptedFile<'_>, parts: u16, tempo: u64, grace: u64)
+    requires { memory_size ≤ length mem.old }
+    ensures { mem.new ≡ new_session (decode file.entry.bytes.now) (record { parts = parts; tempo = tempo; grace = grace }) mem.old }
 {
-    let events = score::event_count(file);
-    let items = score::item_count(file);
+    let events = score::event_count(file.bytes);
+    let items = score::item_count(file.bytes);
     clear(mem);
     put_header(mem, events, items, parts, tempo, grace);
     put_starts(mem, file, events);
@@ -110,6 +117,6 @@ pub fn open_session(
     if MOST_GRACE < grace {
         return Err(Refusal::BadGrace);
     }
-    begin(mem, file, parts, tempo, grace);
+    begin(mem, AcceptedFile { bytes: file }, parts, tempo, grace);
     Ok(parts.count_ones())
 }

@@ -28,8 +28,8 @@ pub returns-then-grace-gt-MOST_GRACE : goal.returns-then-grace-gt-MOST_GRACE
 unfolding opening_check
 returns-then-grace-gt-MOST_GRACE c = search (openings, c.in_ok-check_file.was)
 
-pub begin-requires : goal.begin-requires
-begin-requires c = search (openings, c.in_ok-check_file.was)
+pub invariant_of-begin : goal.invariant_of-begin
+invariant_of-begin c = record { accepted = search (openings, c.in_ok-check_file.was) }
 
 pub returns : goal.returns
 unfolding opening_check

@@ -7,7 +7,7 @@ ruleset steps = (page_end, page-next, kept-length, rules)
 
 pub loop-p-preserved : goal.loop-p-preserved
 loop-p-preserved c =
-    (search steps, page-next _ _ _ 288 _ _ c.requires.2 c.loop-p.invariant.1 _ _ c.loop-p-test.true c.read_item.ensures c.item_word.ensures)
+    (search steps, page-next _ _ _ 288 _ _ c.requires.1 c.loop-p.invariant.1 _ _ c.loop-p-test.true c.read_item.ensures c.item_word.ensures)
 
 pub returns : goal.returns
 returns c = search steps

@@ -11,4 +11,4 @@ use Rattle.opening.specs.Opening.{with_words}
 use Rattle.opening.proofs.put_page.Given as goal
 
 abbrev pub invariant-loop-p : goal.invariant-loop-p
-invariant-loop-p l = (length l.mem ≡ length l.initial.mem) × (with_words (page_at + l.p) (map item_word (drop l.p (decode l.file).items)) l.mem ≡ with_words page_at (map item_word (decode l.file).items) l.initial.mem)
+invariant-loop-p l = (length l.mem ≡ length l.initial.mem) × (with_words (page_at + l.p) (map item_word (drop l.p (decode l.file.bytes.now).items)) l.mem ≡ with_words page_at (map item_word (decode l.file.bytes.now).items) l.initial.mem)

@@ -7,7 +7,7 @@ ruleset steps = (starts-end, starts-next, kept-length, rules)
 
 pub loop-k-preserved : goal.loop-k-preserved
 loop-k-preserved c =
-    (search steps, search steps, starts-next _ _ _ 17 _ _ _ c.requires.2 c.loop-k.invariant.2 _ c.loop-k-test.true c.duration-d.ensures)
+    (search steps, search steps, starts-next _ _ _ 17 _ _ _ c.requires.1 c.loop-k.invariant.2 _ c.loop-k-test.true c.duration-d.ensures)
 
 pub returns : goal.returns
 returns c = search steps
