@@ -4,7 +4,6 @@
 
 ghost use Rattle.std.specs.Prelude.{◌≤◌, length};
 
-use check::same;
 use sequencer::Figures;
 use session::Refusal;
 use session::layout::{MEMORY_SIZE, ROOM_SIZE};
@@ -29,6 +28,12 @@ struct Told {
     number: usize,
     figure: u64,
 }
+
+// What a run tells that makes no call.
+const NOTHING: Told = Told {
+    number: 0,
+    figure: 0,
+};
 
 fn tell_check(v: Result<(), contents::Fault>) -> Told {
     let r = contents::replied(v);
@@ -72,26 +77,18 @@ fn hear_all(mem: &mut [u64], room: &mut [u64]) -> Told {
 
 // The calls of a session that was opened just before.
 fn run_session(word: &[u8], mem: &mut [u64], room: &mut [u64], opened: Told) -> Told {
-    if same(word, b"tell") {
-        return tell_report(sequencer::read_report(mem));
+    match word {
+        b"tell" => tell_report(sequencer::read_report(mem)),
+        b"pass" => tell_sent(sequencer::pass(mem, room, 1)),
+        b"note" => tell_sent(sequencer::hear(mem, room, 1, FAST)),
+        b"last" => tell_sent(sequencer::hear(mem, room, 256, FAST)),
+        b"each" => hear_all(mem, room),
+        b"full" => {
+            hear_all(mem, room);
+            tell_sent(sequencer::pass(mem, room, 1000))
+        }
+        _ => opened,
     }
-    if same(word, b"pass") {
-        return tell_sent(sequencer::pass(mem, room, 1));
-    }
-    if same(word, b"note") {
-        return tell_sent(sequencer::hear(mem, room, 1, FAST));
-    }
-    if same(word, b"last") {
-        return tell_sent(sequencer::hear(mem, room, 256, FAST));
-    }
-    if same(word, b"each") {
-        return hear_all(mem, room);
-    }
-    if same(word, b"full") {
-        hear_all(mem, room);
-        return tell_sent(sequencer::pass(mem, room, 1000));
-    }
-    opened
 }
 
 fn tell_transcript(t: Result<usize, TextError>) -> Told {
@@ -105,21 +102,17 @@ fn tell_transcript(t: Result<usize, TextError>) -> Told {
 // The text of the score, read again.
 fn read_again(written: &[u8], size: usize) -> Told {
     let mut room = [0u8; FILE_ROOM];
-    if written.len() < size {
-        return Told {
-            number: 0,
-            figure: 0,
-        };
+    match written.get(..size) {
+        Some(text) => tell_transcript(reader::read_text(text, &mut room)),
+        None => NOTHING,
     }
-    let from = 0;
-    tell_transcript(reader::read_text(&written[from..size], &mut room))
 }
 
 // The score written as text, and, for another word, that text read.
 fn run_text(word: &[u8], file: &[u8]) -> Told {
     let mut written = [0u8; TEXT_ROOM];
     let t = writer::write_text(file, &mut written);
-    if same(word, b"page") {
+    if let b"page" = word {
         return tell_transcript(t);
     }
     read_again(&written, text::replied_text(t).size)
@@ -129,15 +122,12 @@ fn run_text(word: &[u8], file: &[u8]) -> Told {
 fn run_unfolding(rt: &HostRuntime, word: &[u8]) -> Told {
     let mut extended = [0u8; 65536];
     let size = read_file(rt, "folded.bin", &mut extended);
-    if same(word, b"seen") {
-        return Told {
-            number: 0,
-            figure: 0,
-        };
+    if let b"seen" = word {
+        return NOTHING;
     }
     let mut room = [0u8; FILE_ROOM];
     let r = unfolding::replied_unfolding(unfolder::unfold(&extended[..size], &mut room));
-    if same(word, b"fold") {
+    if let b"fold" = word {
         return Told {
             number: r.number,
             figure: r.size as u64 % 65536,
@@ -147,51 +137,24 @@ fn run_unfolding(rt: &HostRuntime, word: &[u8]) -> Told {
 }
 
 fn check_made(room: &[u8], size: usize) -> Told {
-    if room.len() < size {
-        return Told {
-            number: 0,
-            figure: 0,
-        };
+    match room.get(..size) {
+        Some(file) => tell_check(score::check_file(file)),
+        None => NOTHING,
     }
-    let from = 0;
-    tell_check(score::check_file(&room[from..size]))
-}
-
-// Whether the word is one of unfolding's.
-fn unfolds(word: &[u8]) -> bool {
-    if same(word, b"seen") {
-        return true;
-    }
-    if same(word, b"fold") {
-        return true;
-    }
-    same(word, b"made")
 }
 
 fn run(rt: &HostRuntime, word: &[u8], file: &[u8], mem: &mut [u64], room: &mut [u64]) -> Told {
-    if same(word, b"none") {
-        return Told {
-            number: 0,
-            figure: 0,
-        };
+    match word {
+        b"none" => NOTHING,
+        b"file" => tell_check(score::check_file(file)),
+        b"text" => tell_check(score::label_reply(file, 511)),
+        b"page" | b"read" => run_text(word, file),
+        b"seen" | b"fold" | b"made" => run_unfolding(rt, word),
+        _ => {
+            let opened = open_score(mem, file);
+            run_session(word, mem, room, opened)
+        }
     }
-    if same(word, b"file") {
-        return tell_check(score::check_file(file));
-    }
-    if same(word, b"text") {
-        return tell_check(score::label_reply(file, 511));
-    }
-    if same(word, b"page") {
-        return run_text(word, file);
-    }
-    if same(word, b"read") {
-        return run_text(word, file);
-    }
-    if unfolds(word) {
-        return run_unfolding(rt, word);
-    }
-    let opened = open_score(mem, file);
-    run_session(word, mem, room, opened)
 }
 
 // The figure has four digits, base 16, so that printing it costs the same in every run.

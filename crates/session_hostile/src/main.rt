@@ -17,9 +17,8 @@ type Room = [u64; ROOM_SIZE + 8];
 
 // The case's name, which is a part of the script, and how many words of memory and of room are lent.
 #[derive(Clone, Copy)]
-struct Case {
-    name: usize,
-    end: usize,
+struct Case<'a> {
+    name: Option<&'a [u8]>,
     words: u64,
     space: u64,
 }
@@ -42,8 +41,8 @@ fn row(to: &mut [u64], from: u64, first: u64, count: u64, step: u64) {
     let mut value = first;
     for _ in 0..count {
         put(to, place, value);
-        place = std::num::wrapping_add_u64(place, 1);
-        value = std::num::wrapping_add_u64(value, step);
+        place = place.wrapping_add(1);
+        value = value.wrapping_add(step);
     }
 }
 
@@ -94,94 +93,77 @@ fn least(n: u64, all: usize) -> usize
     chosen
 }
 
-// The call of a code (see `act`), on the words that are lent.
-fn call(c: Case, k: u64, n: &Numbers, was: &Memory, mem: &mut [u64], had: &Room, room: &mut [u64]) {
-    let from = 0;
+// A call that has so many numbers, on the words that are lent.
+fn call(
+    c: Case,
+    word: &[u8],
+    count: usize,
+    n: &Numbers,
+    was: &Memory,
+    mem: &mut [u64],
+    had: &Room,
+    room: &mut [u64],
+) {
     let words = least(c.words, mem.len());
     let space = least(c.space, room.len());
-    let m = &mut mem[from..words];
-    let r = &mut room[from..space];
-    match k {
-        73 | 76 => show::open(was, m, n),
-        82 => show::hear(was, m, had, r, n),
-        91 => show::pass(was, m, had, r, n),
-        100 => show::report(was, m),
-        110 => show::words(m),
+    let m = &mut mem[..words];
+    let r = &mut room[..space];
+    match (word, count) {
+        (b"open", 3 | 6) => show::open(was, m, n),
+        (b"hear", 2) => show::hear(was, m, had, r, n),
+        (b"pass", 1) => show::pass(was, m, had, r, n),
+        (b"report", 0) => show::report(was, m),
+        (b"words", 0) => show::words(m),
         _ => text(b"no such command\n"),
     }
 }
 
-fn shown(c: Case, k: u64, n: &Numbers, mem: &mut Memory, room: &mut Room) {
+fn shown(c: Case, word: &[u8], count: usize, n: &Numbers, mem: &mut Memory, room: &mut Room) {
     let was = *mem;
     let had = *room;
-    call(c, k, n, &was, mem, &had, room);
+    call(c, word, count, n, &was, mem, &had, room);
 }
 
-// The command of a code (see `act`) that sets words.
-fn stage(k: u64, n: &Numbers, mem: &mut Memory, room: &mut Room) {
-    match k {
-        22 => put(mem, n[0], n[1]),
-        24 => row(mem, n[0], n[1], n[2], n[3]),
-        30 => clear(room),
-        41 => blank(mem, room, n[0]),
-        50 => opened(mem, room),
-        60 => running(mem, room),
+// A command that sets words, and has so many numbers.
+fn stage(word: &[u8], count: usize, n: &Numbers, mem: &mut Memory, room: &mut Room) {
+    match (word, count) {
+        (b"put", 2) => put(mem, n[0], n[1]),
+        (b"put", 4) => row(mem, n[0], n[1], n[2], n[3]),
+        (b"clear", 0) => clear(room),
+        (b"blank", 1) => blank(mem, room, n[0]),
+        (b"opened", 0) => opened(mem, room),
+        (b"running", 0) => running(mem, room),
         _ => text(b"no such command\n"),
     }
 }
 
-fn name(script: &[u8], from: usize, end: usize) {
-    if end < from {
-        return;
-    }
-    if script.len() < end {
-        return;
-    }
-    text(&script[from..end]);
-    text(b": ");
+fn begin(name: Option<&[u8]>, words: u64, space: u64) -> Case {
+    Case { name, words, space }
 }
 
-fn begin(name: usize, end: usize, words: u64, space: u64) -> Case {
-    Case {
-        name,
-        end,
-        words,
-        space,
-    }
-}
-
-// The command between two places of the script. Its code is ten times its place among the commands, and how many numbers it has. A case begins with all words lent; an
-// opening that says nothing of the file is on P2's 90 bytes.
-fn act(script: &[u8], at: usize, end: usize, c: Case, mem: &mut Memory, room: &mut Room) -> Case
-    requires { (at < end) × (end ≤ length script.now) × (length script.now < 32768) }
-{
-    if script[at] == b'#' {
-        return c;
-    }
-    let from = 0;
-    let line = &script[at..end];
-    let behind = find(line, from, line.len(), b' ');
-    let word = &line[from..behind];
-    let place = reading::index(
-        word,
-        b"case lend put clear blank opened running open hear pass report words",
-    );
-    if place == 0 {
-        return begin(at + 5, end, MEMORY_SIZE as u64 + 8, ROOM_SIZE as u64 + 8);
+// The command of a line. A case begins with all words lent; an opening that says nothing of the file is on P2's 90 bytes.
+fn act<'a>(line: &'a [u8], c: Case<'a>, mem: &mut Memory, room: &mut Room) -> Case<'a> {
+    let behind = find(line, 0, line.len(), b' ');
+    let word = &line[..behind];
+    if let b"case" = word {
+        return begin(line.get(5..), MEMORY_SIZE as u64 + 8, ROOM_SIZE as u64 + 8);
     }
     let mut n: Numbers = [0, 0, 0, 90, 90, 0, 0, 0];
     let count = reading::read(line, behind, &mut n);
-    let k = 10 * place + count;
-    if k == 12 {
-        return begin(c.name, c.end, n[0], n[1]);
+    match word {
+        b"lend" if count == 2 => return begin(c.name, n[0], n[1]),
+        b"lend" | b"put" | b"clear" | b"blank" | b"opened" | b"running" => {
+            stage(word, count, &n, mem, room);
+            return c;
+        }
+        _ => {}
     }
-    if place < 7 {
-        stage(k, &n, mem, room);
-        return c;
+    if let Some(name) = c.name {
+        text(name);
+        text(b": ");
     }
-    name(script, c.name, c.end);
     show::head(word, &n, count);
-    shown(c, k, &n, mem, room);
+    shown(c, word, count, &n, mem, room);
     c
 }
 
@@ -203,12 +185,13 @@ fn stop(script: &[u8], at: usize) -> usize
 fn run(script: &[u8], mem: &mut Memory, room: &mut Room)
     requires { length script.now < 32768 }
 {
-    let mut c = begin(0, 0, 0, 0);
+    let mut c = begin(Some(b""), 0, 0);
     let mut at = 0;
+    // Where the next part begins, `stop` answers.
     while at < script.len() {
         let end = stop(script, at);
-        if at < end {
-            c = act(script, at, end, c, mem, room);
+        if at < end && script[at] != b'#' {
+            c = act(&script[at..end], c, mem, room);
         }
         at = end + 1;
     }

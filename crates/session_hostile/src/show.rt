@@ -12,7 +12,7 @@ fn number(n: u64) {
 }
 
 // A call, and its numbers: of an opening's the first two. Its grace and its file are for the case's name to say.
-pub fn head(word: &[u8], n: &Numbers, count: u64) {
+pub fn head(word: &[u8], n: &Numbers, count: usize) {
     text(word);
     if 0 < count {
         number(n[0]);
@@ -54,10 +54,8 @@ fn change(was: &[u64], is: &[u64], at: usize, listed: bool) -> usize
 // How many words from a place on are not what they were.
 fn changes(was: &[u64], is: &[u64], from: usize, listed: bool) -> usize {
     let mut count: usize = 0;
-    let mut at = from;
-    while at < is.len() {
+    for at in from..is.len() {
         count += change(was, is, at, listed);
-        at += 1;
     }
     count
 }

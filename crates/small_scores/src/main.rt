@@ -33,24 +33,25 @@ const GRACE: usize = 564;
 
 type Score = [u64; 565];
 
-// What is read next: a line's first word, field 1 to 6 of an item with 16 times the fields before it, or one of these.
-const FIRST: u64 = 0;
-
-const DURATION: u64 = 7;
-
-const HEARD: u64 = 8;
-
-const NAME: u64 = 9;
-
-const COMMENT: u64 = 10;
-
-const PLUS: u64 = 11;
+// What is read next: a line's first word, or what it said; of an item each field, behind the fields before it.
+#[derive(Clone, Copy)]
+enum Next {
+    First,
+    Synchrony,
+    Error(u64),
+    Part(u64),
+    Delay(u64),
+    Event(u64),
+    Last(u64),
+    Duration,
+    Heard,
+    Name,
+    Comment,
+    Grace,
+}
 
 // "a grace g, 0 to 630 grains"
 const MOST_GRACE: u64 = 630;
-
-// What stands for a word that can't be read. Numbers have at most six digits.
-const NONE: u64 = 1000000;
 
 // The letter of an action's message: message 0 is a.
 fn letter(w: u64) -> u8 {
@@ -106,17 +107,11 @@ fn settle(score: &mut Score, k: usize)
 }
 
 // Event k is heard, if there is one, after those heard before.
-fn hear(score: &mut Score, k: usize) -> u64 {
+fn hear(score: &mut Score, k: usize) -> Option<Next> {
     let events = score[EVENTS] as usize % 17;
     let size = score[SIZE] as usize % 17;
-    if k == 0 {
-        return NONE;
-    }
-    if events < k {
-        return NONE;
-    }
-    if score[TAKEN + k] != 0 {
-        return NONE;
+    if k == 0 || events < k || score[TAKEN + k] != 0 {
+        return None;
     }
     let t = Places {
         starts: STARTS,
@@ -130,24 +125,24 @@ fn hear(score: &mut Score, k: usize) -> u64 {
     settle(score, k);
     evaluators::perform(score, t);
     tell_all(score, size, k);
-    HEARD
+    Some(Next::Heard)
 }
 
 // One more event. Where it ends, the next would begin.
-fn add_event(score: &mut Score, duration: u64) -> u64 {
+fn add_event(score: &mut Score, duration: u64) -> Option<Next> {
     let k = score[EVENTS] as usize;
     if 16 <= k {
-        return NONE;
+        return None;
     }
     score[EVENTS] = k as u64 + 1;
-    score[k + 2] = score[k + 1] % 1000000000 + duration % NONE;
-    DURATION
+    score[k + 2] = score[k + 1] % 1000000000 + duration % 1000000;
+    Some(Next::Duration)
 }
 
 // The grace, from here on.
-fn set_grace(score: &mut Score, grace: u64) -> u64 {
+fn set_grace(score: &mut Score, grace: u64) -> Next {
     score[GRACE] = grace;
-    FIRST
+    Next::First
 }
 
 // The item whose fields were joined.
@@ -165,82 +160,46 @@ fn item_word(fields: u64) -> u64 {
 }
 
 // One more item. Nothing comes of a group itself, so that its outcome is 1.
-fn add_item(score: &mut Score, fields: u64) -> u64 {
+fn add_item(score: &mut Score, fields: u64) -> Option<Next> {
     let p = score[SIZE] as usize;
     if 16 <= p {
-        return NONE;
+        return None;
     }
     let w = item_word(fields);
     score[ITEMS + p] = w;
     score[OUTCOMES + p] = words::item_in(w).kind as u64;
     score[SIZE] = p as u64 + 1;
-    FIRST
+    Some(Next::First)
 }
 
-fn below(bound: u64, x: u64) -> u64 {
-    if x < bound { x } else { NONE }
+// A number below a bound.
+fn below(bound: u64, number: Option<u64>) -> Option<u64> {
+    number.filter(|x| *x < bound)
 }
 
 // Where a word's first letter stands in a row of letters.
-fn find(letters: &[u8], first: u8) -> u64 {
-    below(
-        letters.len() as u64,
-        letters
-            .iter()
-            .position(|b| *b == first)
-            .unwrap_or(letters.len()) as u64,
-    )
+fn find(letters: &[u8], first: u8) -> Option<u64> {
+    let place = letters.iter().position(|b| *b == first)?;
+    Some(place as u64)
 }
 
 // How many items a group holds, or the letter of an action's message.
-fn last(first: u8, number: u64) -> u64 {
-    if number < NONE {
-        return below(100, number);
-    }
-    find(b"abcde", first)
-}
-
-// What a word is worth as a field. Field 1 is 2 for a loose group and 3 for a tight one, and field 2 is the error word.
-fn worth(field: u64, first: u8, number: u64) -> u64 {
-    match field {
-        1 => find(b"  lt", first),
-        2 => find(b"lgpc", first),
-        3 => below(16, number),
-        6 => last(first, number),
-        4 | DURATION => number,
-        PLUS => below(MOST_GRACE + 1, number),
-        _ => below(17, number),
+fn last(first: u8, number: Option<u64>) -> Option<u64> {
+    match number {
+        Some(_) => below(100, number),
+        None => find(b"abcde", first),
     }
 }
 
 // The fields before, and one more: kind with synchrony and the error word are below 4, the part below 16, a delay has six digits, event and last have two.
-fn joined(before: u64, field: u64, x: u64) -> u64
-    ensures { result < 1000000000000000000 }
+fn joined(before: u64, bound: u64, x: u64) -> u64
+    requires { (0 < bound) × (bound ≤ 1000000) }
 {
-    let all = before % 100000000000;
-    match field {
-        1 | 2 => 4 * all + x % 4,
-        3 => 16 * all + x % 16,
-        4 => 1000000 * all + x % 1000000,
-        _ => 100 * all + x % 100,
-    }
-}
-
-fn read_field(score: &mut Score, field: u64, before: u64, x: u64) -> u64 {
-    if x == NONE {
-        return NONE;
-    }
-    match field {
-        DURATION => add_event(score, x),
-        HEARD => hear(score, x as usize),
-        PLUS => set_grace(score, x),
-        6 => add_item(score, joined(before, field, x)),
-        _ => 16 * joined(before, field, x) + (field % 16 + 1),
-    }
+    bound * (before % 100000000000) + x % bound
 }
 
 // What is still open of the score before, if there is one, and then a new score.
-fn begin_score(score: &mut Score, name: &[u8]) -> u64 {
+fn begin_score(score: &mut Score, name: &[u8]) -> Next {
     let size = score[SIZE] as usize % 17;
     if score[EVENTS] != 0 || size != 0 {
         tell_all(score, size, 0);
@@ -248,71 +207,112 @@ fn begin_score(score: &mut Score, name: &[u8]) -> u64 {
     }
     *score = [0; 565];
     io::write_all(OUT, name);
-    FIRST
+    Next::First
 }
 
-// A line's first word says what is read next, by the place of its letter. An action has no words: its line goes on with field 3, the part.
-fn read_word(score: &mut Score, next: u64, word: &[u8], first: u8, number: u64) -> u64 {
-    let field = next % 16;
-    if field == FIRST {
-        return find(b" g a   ehs#p", first);
+// A line's first word says what is read next, by its letter. An action has no words: its line goes on with the part.
+fn first_word(first: u8) -> Option<Next> {
+    match first {
+        b'g' => Some(Next::Synchrony),
+        b'a' => Some(Next::Part(0)),
+        b'e' => Some(Next::Duration),
+        b'h' => Some(Next::Heard),
+        b's' => Some(Next::Name),
+        b'#' => Some(Next::Comment),
+        b'p' => Some(Next::Grace),
+        _ => None,
     }
-    if field == NAME {
-        return begin_score(score, word);
-    }
-    if field == COMMENT {
-        return next;
-    }
-    read_field(score, field, next / 16, worth(field, first, number))
 }
 
-// The word from one byte to another, if there is one.
-fn end_word(score: &mut Score, next: u64, file: &[u8], from: usize, to: usize, number: u64) -> u64
+// What is read behind a word; nothing if it can't be read. The first field is 2 for a loose group and 3 for a tight one.
+fn read_word(
+    score: &mut Score,
+    next: Next,
+    word: &[u8],
+    first: u8,
+    number: Option<u64>,
+) -> Option<Next> {
+    match next {
+        Next::First => first_word(first),
+        Next::Synchrony => Some(Next::Error(find(b"  lt", first)?)),
+        Next::Error(before) => Some(Next::Part(joined(before, 4, find(b"lgpc", first)?))),
+        Next::Part(before) => Some(Next::Delay(joined(before, 16, below(16, number)?))),
+        Next::Delay(before) => Some(Next::Event(joined(before, 1000000, number?))),
+        Next::Event(before) => Some(Next::Last(joined(before, 100, below(17, number)?))),
+        Next::Last(before) => add_item(score, joined(before, 100, last(first, number)?)),
+        Next::Duration => add_event(score, number?),
+        Next::Heard => hear(score, below(17, number)? as usize),
+        Next::Name => Some(begin_score(score, word)),
+        Next::Comment => Some(next),
+        Next::Grace => Some(set_grace(score, below(MOST_GRACE + 1, number)?)),
+    }
+}
+
+// The word from one byte to another, if there is one. Behind one that can't be read comes a line's first word.
+fn end_word(
+    score: &mut Score,
+    next: Option<Next>,
+    file: &[u8],
+    from: usize,
+    to: usize,
+    number: Option<u64>,
+) -> Option<Next>
     requires { to < length file.now }
 {
     if to <= from {
         return next;
     }
-    let after = read_word(score, next, &file[from..to], file[from], number);
-    if after == NONE {
+    let word = &file[from..to];
+    let after = read_word(score, next.unwrap_or(Next::First), word, file[from], number);
+    if after.is_none() {
         io::write_all(OUT, b" unreadable: ");
-        io::write_all(OUT, &file[from..to]);
+        io::write_all(OUT, word);
     }
     after
 }
 
-// The number with one more digit.
-fn longer(number: u64, b: u8) -> u64 {
-    let digit = find(b"0123456789", b);
-    if 9 < digit {
-        return NONE;
+// The number with one more digit, of at most six.
+fn longer(number: Option<u64>, b: u8) -> Option<u64> {
+    let digit = find(b"0123456789", b)?;
+    let before = number?;
+    if 99999 < before {
+        return None;
     }
-    if 99999 < number {
-        return NONE;
+    Some(10 * before + digit % 10)
+}
+
+// What is read in a line behind this one: an item goes on, and so does what can't be read.
+fn next_line(next: Option<Next>) -> Option<Next> {
+    match next {
+        Some(Next::Duration | Next::Heard | Next::Name | Next::Comment | Next::Grace) => {
+            Some(Next::First)
+        }
+        _ => next,
     }
-    10 * number + digit
 }
 
 // Every word of the file. An item that a line leaves unfinished meets the next line's first word.
 fn read_scores(score: &mut Score, file: &[u8]) {
-    let mut next = FIRST;
+    let mut next = Some(Next::First);
     let mut from = 0;
-    let mut number = 0;
-    for i in 0..file.len() {
-        let b = file[i];
+    let mut number = Some(0);
+    for (i, &b) in file.iter().enumerate() {
         if b == b' ' || b == b'\n' {
             next = end_word(score, next, file, from, i, number);
             from = i + 1;
-            number = 0;
+            number = Some(0);
         } else {
             number = longer(number, b);
         }
-        if b == b'\n' && DURATION <= next % 16 {
-            next = FIRST;
+        if b == b'\n' {
+            next = next_line(next);
         }
     }
-    if next != FIRST || from != file.len() {
-        io::write_all(OUT, b" unfinished");
+    match next {
+        Some(Next::First) if from == file.len() => {}
+        _ => {
+            io::write_all(OUT, b" unfinished");
+        }
     }
     begin_score(score, b"");
 }

@@ -1,4 +1,4 @@
--- Each turn goes on to the next space. Assumes nothing.
+-- At most seven numbers are kept, and less of the line is left at each. Assumes nothing.
 use Rattle.std.proofs.Common.{◌-◌, ◌≤◌, length}
 use Rattle.session_hostile.proofs.reading.read.Given as goal
 
