@@ -1,5 +1,6 @@
 // The items of a sequence, one after the other, and of the groups within it: heard and missed groups call on each other. The bodies go through their items by a
-// `while`, since `item` answers how far the next one is.
+// `while`, since `item` answers how far the next one is. Memory, places and a run's bounds go side by side: memory is lent for writing, and Rattle keeps no ghost
+// fact in a struct beside a `&mut`.
 ghost use Rattle.std.specs.Prelude.{◌≡◌, true, ◌+◌, ◌<◌, min};
 ghost use Rattle.rules.specs.Rules.{heard_group, missed_group, enter};
 ghost use Rattle.fates.specs.Fates.{FateBounded};

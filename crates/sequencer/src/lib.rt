@@ -21,7 +21,8 @@ pub struct Figures {
     pub total: u64,
 }
 
-// The reply table's number and place, and the figures beside them.
+// The reply table's number and place, and the figures beside them. No generic reply for the three calls: each names its figure, as the theorems `no-parts`, `no-count`
+// and `no-figures` do.
 #[derive(Clone, Copy)]
 pub struct SendingReply {
     pub number: usize,

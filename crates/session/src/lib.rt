@@ -1,4 +1,5 @@
-// A session's words: where each stands, when memory is a session, and why a call is refused.
+// A session's words: where each stands, when memory is a session, and why a call is refused. That memory is long enough stands in the contract of each function that
+// writes to it, here and above: it is lent for writing, and Rattle keeps no ghost fact in a struct beside a `&mut`.
 #![tactic(auto)]
 
 ghost use Rattle.std.specs.Prelude.{◌≡◌};
