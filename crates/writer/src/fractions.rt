@@ -17,9 +17,7 @@ fn common(grains: u64) -> u64
     let mut a = GRAINS_OF_A_BEAT;
     let mut b = grains;
     while 0 < b {
-        let rest = a % b;
-        a = b;
-        b = rest;
+        (a, b) = (b, a % b);
     }
     a
 }

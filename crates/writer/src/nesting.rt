@@ -42,17 +42,17 @@ pub fn put_items(
     let mut i = from;
     let mut left = count;
     let mut next = at;
+    // A `while`: a step passes an item with all that stand within it, and how many they are is what is read.
     while 0 < left {
         let item = read_item(file, i);
-        let delay = item.delay.0;
         let last = item.last;
         if item.kind == 0 {
-            next = put_action(file, delay, last as u64, depth, out, next);
+            next = put_action(file, item.delay.0, last as u64, depth, out, next);
             i += 1;
             left -= 1;
             continue;
         }
-        let body = put_group(out, next, depth, delay, item.synchrony, item.error);
+        let body = put_group(out, next, depth, item);
         let brace = put_items(file, i + 1, last, depth + 1, out, body);
         next = put_close(out, brace, depth);
         i = i + 1 + last;

@@ -29,12 +29,9 @@ fn put_messages(file: &[u8], out: &mut [u8], at: usize) -> usize
     requires { Accepted file.now × (at + length (messages_text (decode file.now) 0) ≤ length out.old) }
     ensures { Laid out.old at (messages_text (decode file.now) 0) out.new result }
 {
-    let messages = message_count(file);
-    let mut k = 0;
     let mut next = at;
-    while k < messages {
+    for k in 0..message_count(file) {
         next = put_entry(file, k, out, next);
-        k += 1;
     }
     next
 }
@@ -100,6 +97,7 @@ fn put_page(file: &[u8], out: &mut [u8], at: usize) -> usize
     let mut standing = 0;
     let mut i = 0;
     let mut next = at;
+    // A `loop`: a step takes the top item that comes next, with all within it, or else the next event.
     loop {
         if stands(file, i, e) {
             let item = read_item(file, i);

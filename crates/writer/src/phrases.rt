@@ -8,6 +8,7 @@ ghost use Rattle.writer.specs.Phrases.{numbered, delayed, noted, message_line, e
 use crate::fractions::put_beats;
 use crate::quoting::put_quoted;
 use ascii::{NEWLINE, SPACE, put_byte, put_bytes, put_decimal, put_spaces};
+use page::Item;
 
 // "items with two blanks more for each depth, from four"
 fn put_indent(out: &mut [u8], at: usize, depth: usize) -> usize
@@ -121,19 +122,12 @@ pub fn put_send(
     put_noted(out, b, label)
 }
 
-pub fn put_group(
-    out: &mut [u8],
-    at: usize,
-    depth: usize,
-    delay: u64,
-    synchrony: usize,
-    error: usize,
-) -> usize
-    requires { (delay ≤ longest) × (at + length (group_line depth delay synchrony error) ≤ length out.old) }
-    ensures { Laid out.old at (group_line depth delay synchrony error) out.new result }
+pub fn put_group(out: &mut [u8], at: usize, depth: usize, item: Item) -> usize
+    requires { (item.delay.0 ≤ longest) × (at + length (group_line depth item.delay.0 item.synchrony item.error) ≤ length out.old) }
+    ensures { Laid out.old at (group_line depth item.delay.0 item.synchrony item.error) out.new result }
 {
-    let next = put_delayed(out, at, depth, delay);
-    put_group_words(out, next, synchrony, error)
+    let next = put_delayed(out, at, depth, item.delay.0);
+    put_group_words(out, next, item.synchrony, item.error)
 }
 
 pub fn put_close(out: &mut [u8], at: usize, depth: usize) -> usize

@@ -37,11 +37,8 @@ fn put_escaped(out: &mut [u8], at: usize, label: &[u8]) -> usize
     ensures { Laid out.old at (escaped label.now) out.new result }
 {
     let mut next = at;
-    let mut i = 0;
-    while i < label.len() {
-        let b = label[i];
+    for &b in label {
         next = put_marked(out, next, b);
-        i += 1;
     }
     put_byte(out, next, QUOTE)
 }
