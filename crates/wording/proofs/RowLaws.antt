@@ -5,7 +5,7 @@ use mathlib.Core.List.{List, [], ◌∷◌, ◌++◌, append_assoc, append-nil}
 use Prim.Native.Nat.{ℕ, ◌+◌, ◌*◌, ◌<◌, ◌≤◌}
 use native.Mathlib.Numerals.{add-one}
 use native.Mathlib.Omega.{arith}
-use lib.ListN.{length, take, get_or, get_or-eq_default}
+use lib.ListN.{length, take, get_or}
 use lib.Seq.{take-suc, take_all}
 use borrow.Author.Rules.{rules}
 use Rattle.base.specs.Tests.{pick}
@@ -27,15 +27,6 @@ use Rattle.unfolding.specs.Replies.{unfold_row}
 use Rattle.wording.specs.declared.Row.{Row}
 use Rattle.wording.specs.declared.Row.TheVariants.{Call, Text, Unfold}
 use Rattle.wording.specs.Words.{refusal_words, transcript_words, unfolding_words, row_number, row_words, reply_rows, row_count, first_row, done_number, done_words, reply_line, row_room, row_lines, reply_lines}
-
--- ---- which row
-
-pub row-case : (i k : ℕ) (x : Row) → i ≡ k → x ≡ get_or reply_rows k first_row → x ≡ get_or reply_rows i first_row
-row-case i k x e p = rw e p
-
-pub row-beyond : (i : ℕ) → row_count ≤ i → first_row ≡ get_or reply_rows i first_row
-unfolding reply_rows
-row-beyond i p = rw (get_or-eq_default reply_rows first_row {n = i} p)
 
 -- ---- a row's number and words, case by case
 

@@ -1,7 +1,7 @@
 // The whole reply table for people, a line for each row.
-ghost use Rattle.std.specs.Prelude.{◌≡◌, ◌+◌, ◌*◌, ◌≤◌, length, get_or};
+ghost use Rattle.std.specs.Prelude.{◌≡◌, ◌+◌, ◌*◌, ◌≤◌, length};
 ghost use Rattle.ascii.specs.Laying.{Laid};
-ghost use Rattle.wording.specs.Words.{row_number, row_words, reply_rows, row_count, first_row, reply_line, row_lines, reply_lines, replies_room, done_number, done_words, row_room, most_words};
+ghost use Rattle.wording.specs.Words.{row_number, row_words, reply_rows, row_count, reply_line, row_lines, reply_lines, replies_room, done_number, done_words, row_room, most_words};
 
 use crate::Row;
 use crate::figures::put_figure;
@@ -12,46 +12,39 @@ use session::{Refusal, refusal_row};
 use text::{TextError, replied_text};
 use unfolding::{UnfoldError, replied_unfolding};
 
-const ROWS: usize = 30;
-
-// The i-th row; behind the last, the first stands for it.
-fn row_at(i: usize) -> Row
-    ensures { result ≡ get_or reply_rows i first_row }
-{
-    match i {
-        0 => Row::Call(Refusal::MemoryShort),
-        1 => Row::Call(Refusal::RoomShort),
-        2 => Row::Text(Err(TextError::NoRoom)),
-        3 => Row::Call(Refusal::File(Fault::FileShort)),
-        4 => Row::Call(Refusal::File(Fault::BadCount(4))),
-        5 => Row::Call(Refusal::File(Fault::BadOffset(0))),
-        6 => Row::Call(Refusal::File(Fault::BadLength)),
-        7 => Row::Call(Refusal::File(Fault::BadEvent(32))),
-        8 => Row::Call(Refusal::File(Fault::BadMessage(36))),
-        9 => Row::Call(Refusal::File(Fault::TextLeft)),
-        10 => Row::Call(Refusal::BadTempo),
-        11 => Row::Call(Refusal::NoSession),
-        12 => Row::Call(Refusal::NoEvent),
-        13 => Row::Call(Refusal::NotAfter),
-        14 => Row::Call(Refusal::BadMillis),
-        15 => Row::Call(Refusal::ClockFull),
-        16 => Row::Call(Refusal::File(Fault::NoMessage)),
-        17 => Row::Text(Err(TextError::BadText { line: 1, column: 1 })),
-        18 => Row::Unfold(Err(UnfoldError::BadExtended { place: 0 })),
-        19 => Row::Unfold(Err(UnfoldError::BadExtended { place: 40 })),
-        20 => Row::Unfold(Err(UnfoldError::OverLimit)),
-        21 => Row::Call(Refusal::BadGrace),
-        22 => Row::Call(Refusal::File(Fault::BadItem(ItemRule::Kind, 36))),
-        23 => Row::Call(Refusal::File(Fault::BadItem(ItemRule::Synchrony, 36))),
-        24 => Row::Call(Refusal::File(Fault::BadItem(ItemRule::Part, 36))),
-        25 => Row::Call(Refusal::File(Fault::BadItem(ItemRule::Delay, 36))),
-        26 => Row::Call(Refusal::File(Fault::BadItem(ItemRule::Event, 36))),
-        27 => Row::Call(Refusal::File(Fault::BadItem(ItemRule::Nesting, 36))),
-        28 => Row::Call(Refusal::File(Fault::BadItem(ItemRule::Message, 36))),
-        29 => Row::Call(Refusal::File(Fault::BadItem(ItemRule::Actions, 36))),
-        _ => Row::Call(Refusal::MemoryShort),
-    }
-}
+// Every row of the table in its order, behind the first; where a row's place is a number, any stands for it.
+const REPLY_ROWS: [Row; 30] = [
+    Row::Call(Refusal::MemoryShort),
+    Row::Call(Refusal::RoomShort),
+    Row::Text(Err(TextError::NoRoom)),
+    Row::Call(Refusal::File(Fault::FileShort)),
+    Row::Call(Refusal::File(Fault::BadCount(4))),
+    Row::Call(Refusal::File(Fault::BadOffset(0))),
+    Row::Call(Refusal::File(Fault::BadLength)),
+    Row::Call(Refusal::File(Fault::BadEvent(32))),
+    Row::Call(Refusal::File(Fault::BadMessage(36))),
+    Row::Call(Refusal::File(Fault::TextLeft)),
+    Row::Call(Refusal::BadTempo),
+    Row::Call(Refusal::NoSession),
+    Row::Call(Refusal::NoEvent),
+    Row::Call(Refusal::NotAfter),
+    Row::Call(Refusal::BadMillis),
+    Row::Call(Refusal::ClockFull),
+    Row::Call(Refusal::File(Fault::NoMessage)),
+    Row::Text(Err(TextError::BadText { line: 1, column: 1 })),
+    Row::Unfold(Err(UnfoldError::BadExtended { place: 0 })),
+    Row::Unfold(Err(UnfoldError::BadExtended { place: 40 })),
+    Row::Unfold(Err(UnfoldError::OverLimit)),
+    Row::Call(Refusal::BadGrace),
+    Row::Call(Refusal::File(Fault::BadItem(ItemRule::Kind, 36))),
+    Row::Call(Refusal::File(Fault::BadItem(ItemRule::Synchrony, 36))),
+    Row::Call(Refusal::File(Fault::BadItem(ItemRule::Part, 36))),
+    Row::Call(Refusal::File(Fault::BadItem(ItemRule::Delay, 36))),
+    Row::Call(Refusal::File(Fault::BadItem(ItemRule::Event, 36))),
+    Row::Call(Refusal::File(Fault::BadItem(ItemRule::Nesting, 36))),
+    Row::Call(Refusal::File(Fault::BadItem(ItemRule::Message, 36))),
+    Row::Call(Refusal::File(Fault::BadItem(ItemRule::Actions, 36))),
+];
 
 // The row's number, and its words behind the first `at` bytes.
 fn row_number(x: Row) -> usize
@@ -100,10 +93,8 @@ fn put_rows(out: &mut [u8], at: usize) -> usize
     ensures { Laid out.old at (row_lines reply_rows) out.new result }
 {
     let mut end = at;
-    let mut i = 0;
-    while i < ROWS {
-        end = put_row(out, end, row_at(i));
-        i += 1;
+    for &x in &REPLY_ROWS {
+        end = put_row(out, end, x);
     }
     end
 }
