@@ -28,36 +28,6 @@ use Rattle.wording.specs.declared.Row.{Row}
 use Rattle.wording.specs.declared.Row.TheVariants.{Call, Text, Unfold}
 use Rattle.wording.specs.Words.{refusal_words, transcript_words, unfolding_words, row_number, row_words, reply_rows, row_count, first_row, done_number, done_words, reply_line, row_room, row_lines, reply_lines}
 
--- ---- a row's number and words, case by case
-
-module _ (x : Row) where
-  pub number-call : (c : Refusal) (r : Reply) → x ≡ Call c → r ≡ refusal_row c → r.number ≡ row_number x
-  unfolding row_number
-  number-call c r e p = rw (e, p)
-
-  pub number-text : (t : Result ℕ TextError) (r : TextReply) → x ≡ Text t → r ≡ transcript_row t → r.number ≡ row_number x
-  unfolding row_number
-  number-text t r e p = rw (e, p)
-
-  pub number-unfold : (u : Result ℕ UnfoldError) (r : UnfoldReply) → x ≡ Unfold u → r ≡ unfold_row u → r.number ≡ row_number x
-  unfolding row_number
-  number-unfold u r e p = rw (e, p)
-
-  module _ (o m : List ℕ) (at r : ℕ) where
-    pub words-call : (c : Refusal) → x ≡ Call c → Laid o at (refusal_words c) m r → Laid o at (row_words x) m r
-    unfolding row_words
-    words-call c e l = rw e l
-
-    pub words-text : (t : Result ℕ TextError) → x ≡ Text t → Laid o at (transcript_words t) m r → Laid o at (row_words x) m r
-    unfolding row_words
-    words-text t e l = rw e l
-
-    pub words-unfold : (u : Result ℕ UnfoldError) → x ≡ Unfold u → Laid o at (unfolding_words u) m r → Laid o at (row_words x) m r
-    unfolding row_words
-    words-unfold u e l = rw e l
-
-pub ruleset kinds = (number-call, number-text, number-unfold, words-call, words-text, words-unfold, rules)
-
 -- ---- one line
 
 pub lay-row : (o m₁ m₂ m₃ n : List ℕ) (at a b c r : ℕ) (x : Row) (number : ℕ) → number ≡ row_number x → Laid o at (decimal number) m₁ a → Laid m₁ a (space ∷ []) m₂ b

@@ -47,6 +47,7 @@ const REPLY_ROWS: [Row; 30] = [
 ];
 
 // The row's number, and its words behind the first `at` bytes.
+#[tactic(auto, unfolding(crate::specs::Words::row_number))]
 fn row_number(x: Row) -> usize
     ensures { result ≡ row_number x }
 {
@@ -57,6 +58,7 @@ fn row_number(x: Row) -> usize
     }
 }
 
+#[tactic(auto, unfolding(crate::specs::Words::row_words))]
 fn put_row_words(out: &mut [u8], at: usize, x: Row) -> usize
     requires { at + most_words ≤ length out.old }
     ensures { Laid out.old at (row_words x) out.new result × (result ≤ at + most_words) }

@@ -10,6 +10,7 @@ use text::TextError;
 use unfolding::UnfoldError;
 
 // The words of an item's rule behind the first `at` bytes. Answers where the next byte goes.
+#[tactic(auto, unfolding(crate::specs::Words::rule_words))]
 fn put_rule_words(out: &mut [u8], at: usize, r: ItemRule) -> usize
     requires { at + most_words ≤ length out.old }
     ensures { Laid out.old at (rule_words r) out.new result × (result ≤ at + most_words) }
@@ -52,6 +53,7 @@ fn put_rule_words(out: &mut [u8], at: usize, r: ItemRule) -> usize
 }
 
 // The same for every fault.
+#[tactic(auto, unfolding(crate::specs::Words::fault_words))]
 fn put_fault_words(out: &mut [u8], at: usize, x: Fault) -> usize
     requires { at + most_words ≤ length out.old }
     ensures { Laid out.old at (fault_words x) out.new result × (result ≤ at + most_words) }
@@ -70,6 +72,7 @@ fn put_fault_words(out: &mut [u8], at: usize, x: Fault) -> usize
 }
 
 // The same for every refusal.
+#[tactic(auto, unfolding(crate::specs::Words::refusal_words))]
 pub fn put_words(out: &mut [u8], at: usize, x: Refusal) -> usize
     requires { at + most_words ≤ length out.old }
     ensures { Laid out.old at (refusal_words x) out.new result × (result ≤ at + most_words) }
@@ -89,6 +92,7 @@ pub fn put_words(out: &mut [u8], at: usize, x: Refusal) -> usize
 }
 
 // The same for what comes of a text.
+#[tactic(auto, unfolding(crate::specs::Words::transcript_words))]
 pub fn put_text_words(out: &mut [u8], at: usize, t: Result<usize, TextError>) -> usize
     requires { at + most_words ≤ length out.old }
     ensures { Laid out.old at (transcript_words t) out.new result × (result ≤ at + most_words) }
@@ -110,6 +114,7 @@ pub fn put_text_words(out: &mut [u8], at: usize, t: Result<usize, TextError>) ->
 }
 
 // The words of an extended score that can't be unfolded, by its place: that of the contents is 0.
+#[tactic(auto, unfolding(crate::specs::Words::extended_words))]
 fn put_extended_words(out: &mut [u8], at: usize, place: usize) -> usize
     requires { at + most_words ≤ length out.old }
     ensures { Laid out.old at (extended_words place) out.new result × (result ≤ at + most_words) }
@@ -121,6 +126,7 @@ fn put_extended_words(out: &mut [u8], at: usize, place: usize) -> usize
 }
 
 // The same for what comes of an extended score.
+#[tactic(auto, unfolding(crate::specs::Words::unfolding_words))]
 pub fn put_unfold_words(out: &mut [u8], at: usize, u: Result<usize, UnfoldError>) -> usize
     requires { at + most_words ≤ length out.old }
     ensures { Laid out.old at (unfolding_words u) out.new result × (result ≤ at + most_words) }
@@ -139,6 +145,7 @@ pub fn put_unfold_words(out: &mut [u8], at: usize, u: Result<usize, UnfoldError>
 }
 
 // Whether the fault is at a byte of the file.
+#[tactic(auto, unfolding(crate::specs::Words::fault_placed))]
 fn fault_placed(x: Fault) -> bool
     ensures { result ≡ fault_placed x }
 {
@@ -156,6 +163,7 @@ fn fault_placed(x: Fault) -> bool
 }
 
 // The same for every refusal.
+#[tactic(auto, unfolding(crate::specs::Words::placed))]
 pub fn placed(x: Refusal) -> bool
     ensures { result ≡ placed x }
 {

@@ -105,16 +105,16 @@ pub ruleset fronts = (front-count, front-fitted, front-left, rules)
 -- ---- any file
 
 module _ (f room : List ℕ) (v : Result (Unit {0}) Fault) (told : v ≡ verdict_of (checked f)) where
-  pub file-refused : (x : Fault) → v ≡ Err x → Err (BadFile x) ≡ write_answer (length room) f
+  pub file-refused : (r : Result ℕ TextError) (x : Fault) → v ≡ Err x → r ≡ Err (BadFile x) → r ≡ write_answer (length room) f
   unfolding write_answer allowed
-  file-refused x e = rw (verdict-refused (checked f) v x told e)
+  file-refused r x e q = rw (q, verdict-refused (checked f) v x told e)
 
   pub file-written : (t : Result ℕ TextError) → v ≡ Ok tt → t ≡ fitted (length room) (written (decode f)) → t ≡ write_answer (length room) f
   unfolding write_answer allowed
   file-written t e p = rw (verdict-fine (checked f) v told e) p
 
-pub refused-left : (x : Fault) (made room : List ℕ) → room ≡ room_left (Err (BadFile x)) made room
+pub refused-left : (r : Result ℕ TextError) (x : Fault) (made room : List ℕ) → r ≡ Err (BadFile x) → room ≡ room_left r made room
 unfolding room_left
-refused-left x made room = refl
+refused-left r x made room q = rw q
 
 pub ruleset answers = (accepted-told, file-refused, file-written, refused-left, rules)

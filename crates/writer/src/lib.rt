@@ -49,9 +49,6 @@ pub fn write_text(file: &[u8], room: &mut [u8]) -> Result<usize, TextError>
     ensures value { result ≡ write_answer (length room.old) file.now }
     ensures room_after { room.new ≡ room_left result (written (decode file.now)) room.old }
 {
-    let v = check_file(file);
-    match v {
-        Ok(()) => write_accepted(file, room),
-        Err(x) => Err(TextError::BadFile { fault: x }),
-    }
+    check_file(file)?;
+    write_accepted(file, room)
 }

@@ -1,19 +1,21 @@
--- The verdict decides.
+-- The file check decides.
 -- Assumes nothing.
+use Rattle.std.specs.Prelude.{Err}
+use Rattle.std.proofs.Common.{◌≡◌, rules}
+use Rattle.text.specs.declared.TextError.TheVariants.{BadFile}
 use Rattle.writer.proofs.TextSteps.{answers}
 use Rattle.writer.proofs.write_text.Goals as goal
 
-pub check_file-v-requires : goal.check_file-v-requires
-check_file-v-requires c = search answers
+pub returns-in_err-check_file-clause-value : goal.returns-in_err-check_file-clause-value
+returns-in_err-check_file-clause-value c =
+    let e : c.from_residual.result ≡ Err (BadFile c.in_err-check_file.field-0.0) = search rules in search (answers, e, c.in_err-check_file.was)
+
+pub returns-in_err-check_file-clause-room_after : goal.returns-in_err-check_file-clause-room_after
+returns-in_err-check_file-clause-room_after c =
+    let e : c.from_residual.result ≡ Err (BadFile c.in_err-check_file.field-0.0) = search rules in search (answers, e, c.in_err-check_file.was)
 
 pub write_accepted-requires : goal.write_accepted-requires
-write_accepted-requires c = search answers
+write_accepted-requires c = search (answers, c.in_ok-check_file.was)
 
-pub shape_of-room : goal.shape_of-room
-shape_of-room c = search answers
-
-pub returns-in-Ok : goal.returns-in-Ok
-returns-in-Ok c = search answers
-
-pub returns-in-Err : goal.returns-in-Err
-returns-in-Err c = search answers
+pub returns-clause-value : goal.returns-clause-value
+returns-clause-value c = search (answers, c.in_ok-check_file.was)
