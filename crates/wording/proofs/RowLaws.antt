@@ -1,6 +1,5 @@
 -- The lines of the rows, laid one behind the other, are the table's.
 -- Assumes nothing.
-use Rattle.std.specs.Prelude.{Result}
 use mathlib.Core.List.{List, [], ◌∷◌, ◌++◌, append_assoc, append-nil}
 use Prim.Native.Nat.{ℕ, ◌+◌, ◌*◌, ◌<◌, ◌≤◌}
 use native.Mathlib.Numerals.{add-one}
@@ -15,18 +14,8 @@ use Rattle.ascii.specs.Laying.{Laid}
 use Rattle.ascii.specs.Text.{bytes_of}
 use Rattle.ascii.proofs.LayLaws.{laid-join, laid-nothing}
 use mathlib.Core.Path.{◌≡◌}
-use Rattle.contents.specs.declared.Reply.{Reply}
-use Rattle.session.specs.declared.Refusal.{Refusal}
-use Rattle.session.specs.Replies.{refusal_row}
-use Rattle.text.specs.declared.TextError.{TextError}
-use Rattle.text.specs.declared.TextReply.{TextReply}
-use Rattle.text.specs.Replies.{transcript_row}
-use Rattle.unfolding.specs.declared.UnfoldError.{UnfoldError}
-use Rattle.unfolding.specs.declared.UnfoldReply.{UnfoldReply}
-use Rattle.unfolding.specs.Replies.{unfold_row}
 use Rattle.wording.specs.declared.Row.{Row}
-use Rattle.wording.specs.declared.Row.TheVariants.{Call, Text, Unfold}
-use Rattle.wording.specs.Words.{refusal_words, transcript_words, unfolding_words, row_number, row_words, reply_rows, row_count, first_row, done_number, done_words, reply_line, row_room, row_lines, reply_lines}
+use Rattle.wording.specs.Words.{row_number, row_words, reply_rows, row_count, first_row, done_number, done_words, reply_line, row_room, row_lines, reply_lines}
 
 -- ---- one line
 
