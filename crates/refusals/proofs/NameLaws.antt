@@ -39,54 +39,6 @@ field-none o at i p q = (rw (get_or-eq_default field_words [] {n = i} p) (laid-n
 
 -- ---- an entry
 
-module _ (o : List ℕ) (at : ℕ) (e : Entry) where
-  pub name-none : e ≡ Nowhere → at + name_room ≤ length o → Laid o at (name_words e) o at
-  unfolding name_words
-  name-none p q = rw p (laid-nothing o at (omega arith))
-
-  module _ (m : List ℕ) (r k : ℕ) where
-    pub name-field : e ≡ Contents k → Laid o at (get_or field_words k []) m r → Laid o at (name_words e) m r
-    unfolding name_words
-    name-field p l = rw p l
-
-    pub name-event : e ≡ Event k → Laid o at (bytes_of " event " ++ decimal k) m r → Laid o at (name_words e) m r
-    unfolding name_words
-    name-event p l = rw p l
-
-    pub name-item : e ≡ Item k → Laid o at (bytes_of " item " ++ decimal k) m r → Laid o at (name_words e) m r
-    unfolding name_words
-    name-item p l = rw p l
-
-    pub name-message : e ≡ Message k → Laid o at (bytes_of " message " ++ decimal k) m r → Laid o at (name_words e) m r
-    unfolding name_words
-    name-message p l = rw p l
-
-pub ruleset naming = (name-none, name-field, name-event, name-item, name-message, rules)
-
-module _ (e : Entry) where
-  pub is-nowhere : e ≡ Nowhere → false ≡ is_entry e
-  unfolding is_entry
-  is-nowhere p = rw p
-
-  module _ (k : ℕ) where
-    pub is_field : e ≡ Contents k → true ≡ is_entry e
-    unfolding is_entry
-    is_field p = rw p
-
-    pub is-event : e ≡ Event k → true ≡ is_entry e
-    unfolding is_entry
-    is-event p = rw p
-
-    pub is-item : e ≡ Item k → true ≡ is_entry e
-    unfolding is_entry
-    is-item p = rw p
-
-    pub is-message : e ≡ Message k → true ≡ is_entry e
-    unfolding is_entry
-    is-message p = rw p
-
-pub ruleset entries = (is-nowhere, is_field, is-event, is-item, is-message, rules)
-
 module _ (o : List ℕ) (at mark : ℕ) (e : Entry) (b : Bool) (told : b ≡ is_entry e) where
   pub mark-none : not b ≡ true → at + entry_room ≤ length o → Laid o at (entry_words mark e) o at
   unfolding entry_words pick
@@ -98,36 +50,10 @@ module _ (o : List ℕ) (at mark : ℕ) (e : Entry) (b : Bool) (told : b ≡ is_
 
 pub ruleset marking = (mark-none, mark-name, rules)
 
--- ---- an item's field
-
-pub rule-case : {o m words : List ℕ} {at r : ℕ} {x y : ItemRule} → x ≡ y → Laid o at words m r → rule_field y ≡ words → leb (length words) rule_room ≡ true
-    → Laid o at (rule_field x) m r × (r ≤ at + rule_room)
-rule-case {o} {m} {words} {at} {r} e laid p q =
-    let s : r ≡ at + length words = laid.stop in
-    let l : length words ≤ rule_room = leb-true (length words) rule_room q in
-    (rw (e, p) laid, omega arith)
-
-module _ (o : List ℕ) (at : ℕ) (room : at + rule_room ≤ length o) where
-  pub rule-none : (x y : ItemRule) → x ≡ y → rule_field y ≡ [] → Laid o at (rule_field x) o at
-  rule-none x y e p = rw (e, p) (laid-nothing o at (omega arith))
-
-  pub fault-none : (x y : Fault) → x ≡ y → fault_field y ≡ [] → Laid o at (fault_field x) o at
-  fault-none x y e p = rw (e, p) (laid-nothing o at (omega arith))
-
-  pub refusal-none : (x y : Refusal) → x ≡ y → refusal_field y ≡ [] → Laid o at (refusal_field x) o at
-  refusal-none x y e p = rw (e, p) (laid-nothing o at (omega arith))
-
-module _ (o m : List ℕ) (at r : ℕ) where
-  pub fault-item : (x : Fault) (rule : ItemRule) (place : ℕ) → x ≡ BadItem rule place → Laid o at (rule_field rule) m r → Laid o at (fault_field x) m r
-  unfolding fault_field
-  fault-item x rule place e laid = rw e laid
-
-  pub refusal-file : (x : Refusal) (f : Fault) → x ≡ File f → Laid o at (fault_field f) m r → Laid o at (refusal_field x) m r
-  unfolding refusal_field
-  refusal-file x f e laid = rw e laid
+-- ---- an entry and its field
 
 pub lay-named : (o m n : List ℕ) (at a r mark : ℕ) (e : Entry) (x : Refusal) → Laid o at (entry_words mark e) m a → Laid m a (refusal_field x) n r → Laid o at (named_words mark e x) n r
 unfolding named_words
 lay-named o m n at a r mark e x p q = laid-join o m n _ _ at a r p q
 
-pub ruleset fields = (rule-none, fault-none, refusal-none, fault-item, refusal-file, lay-named, rules)
+pub ruleset fields = (lay-named, rules)

@@ -21,12 +21,14 @@ use Rattle.text.specs.Replies.{transcript_row}
 use Rattle.tokens.specs.declared.Place.{Place}
 use Rattle.hints.specs.declared.Hint.{Hint}
 use Rattle.hints.specs.Hints.{hint_words}
-use Rattle.wording.specs.Words.{refusal_words, transcript_words}
+use Rattle.wording.specs.declared.Row.{Row}
+use Rattle.wording.specs.declared.Row.TheVariants.{Call, Text}
+use Rattle.wording.specs.Words.{row_number, row_words}
 use Rattle.contents.specs.declared.entries.Entry.{Entry}
 use Rattle.contents.specs.Entries.{entry_at}
 use Rattle.refusals.specs.Entries.{colon, named_words}
 use Rattle.refusals.specs.Line.{place_words}
-use Rattle.refusals.specs.Texts.{spot_words, told_end, told_words, misread_line, room_line, refused_number, unmade_words, refused_end, refused_file, unmade_line, misfit_line}
+use Rattle.refusals.specs.Texts.{spot_words, row_refused, row_end, told_end, told_words, misread_line, room_line, refused_number, unmade_words, refused_end, refused_file, unmade_line, misfit_line}
 
 module _ (o m₁ m₂ n : List ℕ) (at a b r : ℕ) where
   -- three pieces
@@ -38,8 +40,8 @@ module _ (o m₁ m₂ n : List ℕ) (at a b r : ℕ) where
   unfolding unmade_words
   lay-unmade c x row entry h e p q s = rw (← h, ← e) (three _ _ _ p q s)
 
-  pub lay-refused-file : (c : Counts) (x : Refusal) (h : Option Hint) → Laid o at (refused_number x) m₁ a → Laid m₁ a (unmade_words c x) m₂ b → Laid m₂ b (refused_end x h) n r → Laid o at (refused_file c x h) n r
-  unfolding refused_file
+  pub lay-refused-file : (c : Counts) (x : Refusal) (h : Option Hint) → Laid o at (row_refused (Call x)) m₁ a → Laid m₁ a (unmade_words c x) m₂ b → Laid m₂ b (row_end (Call x) h) n r → Laid o at (refused_file c x h) n r
+  unfolding refused_file refused_number refused_end row_refused row_end row_number row_words
   lay-refused-file c x h p q s = three _ _ _ p q s
 
 module _ (o m₁ m₂ m₃ n : List ℕ) (at a b d r : ℕ) where
@@ -47,26 +49,22 @@ module _ (o m₁ m₂ m₃ n : List ℕ) (at a b d r : ℕ) where
   four : (w x y z : List ℕ) → Laid o at w m₁ a → Laid m₁ a x m₂ b → Laid m₂ b y m₃ d → Laid m₃ d z n r → Laid o at (w ++ (x ++ (y ++ z))) n r
   four w x y z p q s u = laid-join o m₁ n _ _ at a r p (three m₁ m₂ m₃ n a b d r x y z q s u)
 
-  pub lay-told-end : (t : Result ℕ TextError) (h : Option Hint) → Laid o at (bytes_of ": ") m₁ a → Laid m₁ a (transcript_words t) m₂ b → Laid m₂ b (hint_words h) m₃ d → Laid m₃ d (newline ∷ []) n r → Laid o at (told_end t h) n r
-  unfolding told_end
-  lay-told-end t h p q s u = four _ _ _ _ p q s u
-
-  pub lay-end : (x : Refusal) (h : Option Hint) → Laid o at (bytes_of ": ") m₁ a → Laid m₁ a (refusal_words x) m₂ b → Laid m₂ b (hint_words h) m₃ d → Laid m₃ d (newline ∷ []) n r → Laid o at (refused_end x h) n r
-  unfolding refused_end
+  pub lay-end : (x : Row) (h : Option Hint) → Laid o at (bytes_of ": ") m₁ a → Laid m₁ a (row_words x) m₂ b → Laid m₂ b (hint_words h) m₃ d → Laid m₃ d (newline ∷ []) n r → Laid o at (row_end x h) n r
+  unfolding row_end
   lay-end x h p q s u = four _ _ _ _ p q s u
 
 pub lay-spot : (o m₁ m₂ n name : List ℕ) (a b r l c : ℕ) → Laid o 0 name m₁ a → Laid m₁ a (bytes_of ":" ++ decimal l) m₂ b → Laid m₂ b (bytes_of ":" ++ decimal c) n r → Laid o 0 (spot_words name l c) n r
 unfolding spot_words
 lay-spot o m₁ m₂ n name a b r l c p q s = three o m₁ m₂ n 0 a b r _ _ _ p q s
 
-pub lay-told : (o m n : List ℕ) (at a r : ℕ) (t : Result ℕ TextError) (h : Option Hint) (row : TextReply) → row ≡ transcript_row t → Laid o at (bytes_of ": refused " ++ decimal row.number) m a
-    → Laid m a (told_end t h) n r → Laid o at (told_words t h) n r
-unfolding told_words
-lay-told o m n at a r t h row e p q = rw (← e) (laid-join o m n _ _ at a r p q)
+pub lay-told : (o m n : List ℕ) (at a r : ℕ) (e : TextError) (h : Option Hint) → Laid o at (row_refused (Text (Err e))) m a → Laid m a (row_end (Text (Err e)) h) n r
+    → Laid o at (told_words (Err e) h) n r
+unfolding told_words told_end row_refused row_end row_number row_words
+lay-told o m n at a r e h p q = laid-join o m n _ _ at a r p q
 
-pub lay-number : (o n : List ℕ) (at r : ℕ) (x : Refusal) (row : Reply) → row ≡ refusal_row x → Laid o at (bytes_of ": refused " ++ decimal row.number) n r → Laid o at (refused_number x) n r
-unfolding refused_number
-lay-number o n at r x row e p = rw (← e) p
+pub lay-number : (o n : List ℕ) (at r : ℕ) (x : Row) (k : ℕ) → k ≡ row_number x → Laid o at (bytes_of ": refused " ++ decimal k) n r → Laid o at (row_refused x) n r
+unfolding row_refused
+lay-number o n at r x k e p = rw (← e) p
 
 module _ (o m n name : List ℕ) (a r : ℕ) where
   pub lay-misread : (l c : ℕ) (h : Option Hint) → Laid o 0 (spot_words name l c) m a → Laid m a (told_words (Err (BadText l c)) h) n r → Laid o 0 (misread_line name l c h) n r
@@ -85,4 +83,4 @@ module _ (o m n name : List ℕ) (a r : ℕ) where
   unfolding misfit_line
   lay-misfit p c x h q s = laid-join o m n _ _ 0 a r q s
 
-pub ruleset telling = (lay-spot, lay-told-end, lay-told, lay-misread, lay-room, lay-number, lay-unmade, lay-end, lay-refused-file, lay-unmade-line, lay-misfit, rules)
+pub ruleset telling = (lay-spot, lay-told, lay-misread, lay-room, lay-number, lay-unmade, lay-end, lay-refused-file, lay-unmade-line, lay-misfit, rules)

@@ -7,7 +7,7 @@ use native.Mathlib.Omega.{arith}
 use lib.ListN.{length}
 use borrow.Author.Rules.{rules}
 use borrow.Author.Tests.{le-leb, lt-leb}
-use Rattle.std.specs.Prelude.{Result, Ok, Err}
+use Rattle.std.specs.Prelude.{Result, Ok, Err, None}
 use Rattle.base.specs.Tests.{pick}
 use Rattle.ascii.specs.Words.{newline}
 use Rattle.ascii.specs.Decimals.{decimal}
@@ -21,7 +21,10 @@ use Rattle.unfolding.specs.declared.UnfoldError.{UnfoldError}
 use Rattle.unfolding.specs.declared.UnfoldError.TheVariants.{NoRoom, BadExtended, OverLimit, BadFile}
 use Rattle.unfolding.specs.declared.UnfoldReply.{UnfoldReply}
 use Rattle.unfolding.specs.Replies.{unfold_row}
-use Rattle.wording.specs.Words.{unfolding_words}
+use Rattle.wording.specs.declared.Row.TheVariants.{Unfold}
+use Rattle.wording.specs.Words.{row_number, row_words}
+use Rattle.hints.specs.Hints.{hint_words}
+use Rattle.refusals.specs.Texts.{row_refused, row_end}
 use Rattle.contents.specs.declared.entries.Entry.{Entry}
 use Rattle.contents.specs.declared.entries.Entry.TheVariants.{Nowhere, Item}
 use Rattle.refusals.specs.Entries.{comma, entry_words, entry_room}
@@ -70,41 +73,12 @@ place-told o m n f at a r (suc k) entry z e p q = rw (← e) (laid-join o m n _ 
 
 pub ruleset folded-places = (place_none, place-told, rules)
 
-module _ (o f : List ℕ) (at : ℕ) (u : Result ℕ UnfoldError) where
-  module _ (l : at + place_room + entry_room ≤ length o) where
-    pub where-made : (k : ℕ) → u ≡ Ok k → Laid o at (folded_where f u) o at
-    unfolding folded_where
-    where-made k e = rw e (laid-nothing o at (omega arith))
-
-    pub where-room : u ≡ Err NoRoom → Laid o at (folded_where f u) o at
-    unfolding folded_where
-    where-room e = rw e (laid-nothing o at (omega arith))
-
-    pub where-limit : u ≡ Err OverLimit → Laid o at (folded_where f u) o at
-    unfolding folded_where
-    where-limit e = rw e (laid-nothing o at (omega arith))
-
-    pub where-file : (x : Fault) → u ≡ Err (BadFile x) → Laid o at (folded_where f u) o at
-    unfolding folded_where
-    where-file x e = rw e (laid-nothing o at (omega arith))
-
-  pub where-item : (n : List ℕ) (r place : ℕ) → u ≡ Err (BadExtended place) → Laid o at (folded_place f place) n r → Laid o at (folded_where f u) n r
-  unfolding folded_where
-  where-item n r place e l = rw e l
-
-pub ruleset folded-wheres = (where-made, where-room, where-limit, where-file, where-item, rules)
-
 -- ---- the line
 
-pub lay-folded-end : (o m₁ m₂ n : List ℕ) (at a b r : ℕ) (u : Result ℕ UnfoldError) → Laid o at (bytes_of ": ") m₁ a → Laid m₁ a (unfolding_words u) m₂ b → Laid m₂ b (newline ∷ []) n r
-    → Laid o at (folded_end u) n r
-unfolding folded_end
-lay-folded-end o m₁ m₂ n at a b r u p q s = laid-join o m₁ n _ _ at a r p (laid-join m₁ m₂ n _ _ a b r q s)
+pub lay-folded : (o m₁ m₂ m₃ n name f : List ℕ) (a b d r : ℕ) (u : Result ℕ UnfoldError) → Laid o 0 name m₁ a → Laid m₁ a (row_refused (Unfold u)) m₂ b
+    → Laid m₂ b (folded_where f u) m₃ d → Laid m₃ d (row_end (Unfold u) None) n r → Laid o 0 (folded_line name f u) n r
+unfolding folded_line folded_end row_refused row_end row_number row_words hint_words
+lay-folded o m₁ m₂ m₃ n name f a b d r u p q s t =
+    laid-join o m₁ n _ _ 0 a r p (laid-join m₁ m₂ n _ _ a b r q (laid-join m₂ m₃ n _ _ b d r s t))
 
-pub lay-folded : (o m₁ m₂ m₃ n name f : List ℕ) (a b d r : ℕ) (u : Result ℕ UnfoldError) (row : UnfoldReply) → row ≡ unfold_row u → Laid o 0 name m₁ a
-    → Laid m₁ a (bytes_of ": refused " ++ decimal row.number) m₂ b → Laid m₂ b (folded_where f u) m₃ d → Laid m₃ d (folded_end u) n r → Laid o 0 (folded_line name f u) n r
-unfolding folded_line
-lay-folded o m₁ m₂ m₃ n name f a b d r u row h p q s t =
-    rw (← h) (laid-join o m₁ n _ _ 0 a r p (laid-join m₁ m₂ n _ _ a b r q (laid-join m₂ m₃ n _ _ b d r s t)))
-
-pub ruleset folded-lines = (lay-folded-end, lay-folded, rules)
+pub ruleset folded-lines = (lay-folded, rules)

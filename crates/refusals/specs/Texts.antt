@@ -13,7 +13,8 @@ use Rattle.text.specs.declared.TextError.TheVariants.{NoRoom, BadText}
 use Rattle.text.specs.Replies.{transcript_row}
 use Rattle.hints.specs.declared.Hint.{Hint}
 use Rattle.hints.specs.Hints.{hint_words}
-use Rattle.wording.specs.Words.{refusal_words, transcript_words}
+use Rattle.wording.specs.declared.Row.{Row}
+use Rattle.wording.specs.Words.{refusal_words, transcript_words, row_number, row_words}
 use Rattle.contents.specs.Entries.{entry_at}
 use Rattle.refusals.specs.Entries.{colon, named_words}
 use Rattle.refusals.specs.Line.{place_words}
@@ -23,6 +24,13 @@ use Rattle.refusals.specs.Line.{place_words}
 -- The text's name, line and column, "in the form that editors jump to".
 unfoldable pub spot_words : (name : List ℕ) → (line column : ℕ) → List ℕ
 spot_words name l c = name ++ ((bytes_of ":" ++ decimal l) ++ (bytes_of ":" ++ decimal c))
+
+-- That a row's call is refused, with its number; and its words, and the hint.
+unfoldable pub row_refused : Row → List ℕ
+row_refused x = bytes_of ": refused " ++ decimal (row_number x)
+
+unfoldable pub row_end : Row → Hint → List ℕ
+row_end x h = bytes_of ": " ++ (row_words x ++ (hint_words h ++ (newline ∷ [])))
 
 -- That it is refused, with the row's number and words, and the hint.
 unfoldable pub told_end : Result ℕ TextError → Option Hint → List ℕ

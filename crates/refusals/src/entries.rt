@@ -46,6 +46,7 @@ fn put_field(out: &mut [u8], at: usize, k: usize) -> usize
 }
 
 // The name of an entry behind the first `at` bytes. Answers where the next byte goes.
+#[tactic(auto, unfolding(crate::specs::Entries::name_words))]
 fn put_name(out: &mut [u8], at: usize, e: Entry) -> usize
     requires { at + name_room ≤ length out.old }
     ensures { Laid out.old at (name_words e) out.new result × (result ≤ at + name_room) }
@@ -59,6 +60,7 @@ fn put_name(out: &mut [u8], at: usize, e: Entry) -> usize
     }
 }
 
+#[tactic(auto, unfolding(crate::specs::Entries::is_entry))]
 fn is_entry(e: Entry) -> bool
     ensures { result ≡ is_entry e }
 {
@@ -84,6 +86,7 @@ pub fn put_entry(out: &mut [u8], at: usize, mark: u8, e: Entry) -> usize
 }
 
 // The name of the field that a rule is about, behind the first `at` bytes. Answers where the next byte goes.
+#[tactic(auto, unfolding(crate::specs::Entries::rule_field))]
 fn put_rule_field(out: &mut [u8], at: usize, r: ItemRule) -> usize
     requires { at + rule_room ≤ length out.old }
     ensures { Laid out.old at (rule_field r) out.new result × (result ≤ at + rule_room) }
@@ -102,6 +105,7 @@ fn put_rule_field(out: &mut [u8], at: usize, r: ItemRule) -> usize
 }
 
 // The same for every fault, and for every refusal.
+#[tactic(auto, unfolding(crate::specs::Entries::fault_field))]
 fn put_fault_field(out: &mut [u8], at: usize, x: Fault) -> usize
     requires { at + rule_room ≤ length out.old }
     ensures { Laid out.old at (fault_field x) out.new result × (result ≤ at + rule_room) }
@@ -119,6 +123,7 @@ fn put_fault_field(out: &mut [u8], at: usize, x: Fault) -> usize
     }
 }
 
+#[tactic(auto, unfolding(crate::specs::Entries::refusal_field))]
 fn put_refusal_field(out: &mut [u8], at: usize, x: Refusal) -> usize
     requires { at + rule_room ≤ length out.old }
     ensures { Laid out.old at (refusal_field x) out.new result × (result ≤ at + rule_room) }

@@ -3,16 +3,17 @@ ghost use Rattle.std.specs.Prelude.{◌≡◌, ◌+◌, ◌≤◌, length};
 ghost use Rattle.ascii.specs.Laying.{Laid};
 ghost use Rattle.refusals.specs.Entries.{entry_room};
 ghost use Rattle.refusals.specs.Line.{place_room};
-ghost use Rattle.refusals.specs.Texts.{end_room, text_line_room};
-ghost use Rattle.refusals.specs.Unfolds.{folded_entry, folded_place, folded_where, folded_end, folded_line};
+ghost use Rattle.refusals.specs.Texts.{text_line_room};
+ghost use Rattle.refusals.specs.Unfolds.{folded_entry, folded_place, folded_where, folded_line};
 
 use crate::entries::{COMMA, put_entry};
-use ascii::{NEWLINE, put_byte, put_bytes};
+use crate::texts::{put_end, put_refused};
+use ascii::put_bytes;
 use contents::Entry;
 use extended::extent_of;
 use extended::layout::{EXTENDED_CONTENTS, FOLDED_SIZE, items_start};
-use unfolding::{UnfoldError, replied_unfolding};
-use wording::{put_counted, put_unfold_words};
+use unfolding::UnfoldError;
+use wording::{Row, put_counted};
 
 // The item that holds this byte of an extended score, whatever its counts are.
 pub fn folded_entry(extended: &[u8], place: usize) -> Entry
@@ -41,6 +42,7 @@ fn put_folded_place(out: &mut [u8], at: usize, extended: &[u8], place: usize) ->
     put_entry(out, at, COMMA, folded_entry(extended, place))
 }
 
+#[tactic(auto, unfolding(crate::specs::Unfolds::folded_where))]
 fn put_folded_where(
     out: &mut [u8],
     at: usize,
@@ -59,16 +61,6 @@ fn put_folded_where(
     }
 }
 
-// The words, and the line's end.
-fn put_folded_end(out: &mut [u8], at: usize, u: Result<usize, UnfoldError>) -> usize
-    requires { at + end_room ≤ length out.old }
-    ensures { Laid out.old at (folded_end u) out.new result }
-{
-    let at = put_bytes(out, at, b": ");
-    let at = put_unfold_words(out, at, u);
-    put_byte(out, at, NEWLINE)
-}
-
 // The line of an extended score that is refused for itself, from the front of `out`. Answers its length.
 pub fn folded_line(
     out: &mut [u8],
@@ -80,7 +72,7 @@ pub fn folded_line(
     ensures { Laid out.old 0 (folded_line name.now extended.now u) out.new result }
 {
     let at = put_bytes(out, 0, name);
-    let at = put_counted(out, at, b": refused ", replied_unfolding(u).number);
+    let at = put_refused(out, at, Row::Unfold(u));
     let at = put_folded_where(out, at, extended, u);
-    put_folded_end(out, at, u)
+    put_end(out, at, Row::Unfold(u), None)
 }

@@ -16,7 +16,7 @@ use Rattle.contents.specs.Replies.{fault_row}
 use Rattle.tokens.specs.declared.Place.{Place}
 use Rattle.session.specs.Replies.{refusal_row}
 use Rattle.session.specs.declared.Refusal.TheVariants.{File}
-use Rattle.streams.specs.declared.ending.Ending.{Ending}
+use Rattle.streams.specs.declared.ending.Ending.TheVariants.{Done, Refused}
 use Rattle.text.specs.declared.TextError.{TextError}
 use Rattle.text.specs.declared.TextError.TheVariants.{NoRoom, BadText, BadFile}
 use Rattle.text.specs.Said.{said}
@@ -31,14 +31,11 @@ use Rattle.transcribing.specs.Told.{counts_told, counts_said, hint_told, faulty_
 
 -- ---- counts
 
-pub counts-case : (t u : Result Counts ℕ) (r : Counts) → t ≡ u → r ≡ counts_told u → r ≡ counts_told t
-counts-case t u r e p = rw e p
-
 pub counts_of : (text : List ℕ) (t : Result Counts ℕ) (r : Counts) → t ≡ tally_of (said text) → r ≡ counts_told t → r ≡ counts_said (said text)
 unfolding counts_said
 counts_of text t r e p = rw (← e) p
 
-pub ruleset counting = (counts-case, counts_of, rules)
+pub ruleset counting = (counts_of, rules)
 
 -- ---- hints
 
@@ -69,49 +66,18 @@ pub lay-faulty : (o n name text : List ℕ) (r i c : ℕ) (t : Result Counts ℕ
 unfolding faulty_line
 lay-faulty o n name text r i c t h e f l = rw (← e, ← f) l
 
-module _ (o n name : List ℕ) (r : ℕ) (t : Result ℕ TextError) where
-  module _ (text : List ℕ) where
-    pub read-room : t ≡ Err NoRoom → Laid o 0 (room_line name) n r → Laid o 0 (read_line name text t) n r
-    unfolding read_line
-    read-room e l = rw e l
-
-    pub read-text : (i c : ℕ) → t ≡ Err (BadText i c) → Laid o 0 (faulty_line name text i c) n r → Laid o 0 (read_line name text t) n r
-    unfolding read_line
-    read-text i c e l = rw e l
-
-    pub read-file : (x : Fault) → t ≡ Err (BadFile x) → Laid o 0 (unfit_line name text x) n r → Laid o 0 (read_line name text t) n r
-    unfolding read_line
-    read-file x e l = rw e l
-
-  module _ (file : List ℕ) where
-    pub write-room : t ≡ Err NoRoom → Laid o 0 (room_line name) n r → Laid o 0 (write_line name file t) n r
-    unfolding write_line
-    write-room e l = rw e l
-
-    pub write-text : (i c : ℕ) → t ≡ Err (BadText i c) → Laid o 0 (misread_line name i c None) n r → Laid o 0 (write_line name file t) n r
-    unfolding write_line
-    write-text i c e l = rw e l
-
-    pub write-file : (x : Fault) → t ≡ Err (BadFile x) → Laid o 0 (refusal_line name file (File x)) n r → Laid o 0 (write_line name file t) n r
-    unfolding write_line
-    write-file x e l = rw e l
-
-module _ (o name : List ℕ) (t : Result ℕ TextError) (k : ℕ) (e : t ≡ Ok k) where
-  pub read_made : (text : List ℕ) → Laid o 0 (read_line name text t) o 0
-  unfolding read_line
-  read_made text = rw e (laid-nothing o 0 (omega arith))
-
-  pub write-made : (file : List ℕ) → Laid o 0 (write_line name file t) o 0
-  unfolding write_line
-  write-made file = rw e (laid-nothing o 0 (omega arith))
-
-pub ruleset reading = (lay-unfit, lay-faulty, read_made, read-room, read-text, read-file, rules)
-
-pub ruleset writing = (write-made, write-room, write-text, write-file, rules)
+pub ruleset reading = (lay-unfit, lay-faulty, rules)
 
 -- ---- endings
 
-pub ending-case : (t u : Result ℕ TextError) (r : Ending) → t ≡ u → r ≡ ending_of u → r ≡ ending_of t
-ending-case t u r e p = rw e p
+pub ending-made : (t : Result ℕ TextError) (k : ℕ) → t ≡ Ok k → Done ≡ ending_of t
+unfolding ending_of
+ending-made t k e = rw e
 
-pub ruleset endings = (ending-case, rules)
+pub ending-refused : (t : Result ℕ TextError) (x : TextError) → t ≡ Err x → Refused ≡ ending_of t
+unfolding ending_of
+ending-refused t NoRoom e = rw e
+ending-refused t (BadText l c) e = rw e
+ending-refused t (BadFile x) e = rw e
+
+pub ruleset endings = (ending-made, ending-refused, rules)

@@ -20,7 +20,7 @@ use Rattle.contents.specs.Replies.{rule_row}
 use Rattle.contents.specs.Contents.{events_at, items_at}
 use Rattle.contents.proofs.RuleRows.{field-within}
 use Rattle.session.specs.declared.Refusal.TheVariants.{File}
-use Rattle.streams.specs.declared.ending.Ending.{Ending}
+use Rattle.streams.specs.declared.ending.Ending.TheVariants.{Done, Refused}
 use Rattle.extended.specs.declared.Extent.{Extent}
 use Rattle.extended.specs.Layout.{extended_contents, extent_of}
 use Rattle.unfolding.specs.declared.UnfoldError.{UnfoldError}
@@ -41,14 +41,11 @@ pub events-read : (f : List ℕ) (c : Extent) → extended_contents ≤ length f
 unfolding events_folded pick
 events-read f c p e = rw (le-leb extended_contents (length f) p, e)
 
-pub items-case : (x y : Fault) (r : ℕ) → x ≡ y → r ≡ items_told y → r ≡ items_told x
-items-case x y r e p = rw e p
-
 pub counts-folded : (f : List ℕ) (x : Fault) (n k : ℕ) → n ≡ events_folded f → k ≡ items_told x → record { events = n; items = k; messages = 0; text = 0 } ≡ counts_folded f x
 unfolding counts_folded
 counts-folded f x n k p q = rw (p, q)
 
-pub ruleset folded-counts = (events-none, events-read, items-case, counts-folded, rules)
+pub ruleset folded-counts = (events-none, events-read, counts-folded, rules)
 
 -- ---- lines
 
@@ -56,35 +53,22 @@ pub lay-unfolded : (o n name f : List ℕ) (r : ℕ) (c : Counts) (x : Fault) �
     → Laid o 0 (unmade_line name (counts_folded f x) (File x)) n r
 lay-unfolded o n name f r c x e l = rw (← e) l
 
-module _ (o n name f : List ℕ) (r : ℕ) (u : Result ℕ UnfoldError) where
-  pub unfold-room : u ≡ Err NoRoom → Laid o 0 (folded_line name f (Err NoRoom)) n r → Laid o 0 (unfold_line name f u) n r
-  unfolding unfold_line
-  unfold-room e l = rw e l
-
-  pub unfold-extended : (place : ℕ) → u ≡ Err (BadExtended place) → Laid o 0 (folded_line name f (Err (BadExtended place))) n r → Laid o 0 (unfold_line name f u) n r
-  unfolding unfold_line
-  unfold-extended place e l = rw e l
-
-  pub unfold-limit : u ≡ Err OverLimit → Laid o 0 (folded_line name f (Err OverLimit)) n r → Laid o 0 (unfold_line name f u) n r
-  unfolding unfold_line
-  unfold-limit e l = rw e l
-
-  pub unfold-file : (x : Fault) → u ≡ Err (BadFile x) → Laid o 0 (unmade_line name (counts_folded f x) (File x)) n r → Laid o 0 (unfold_line name f u) n r
-  unfolding unfold_line
-  unfold-file x e l = rw e l
-
-pub unfold-made : (o name f : List ℕ) (u : Result ℕ UnfoldError) (k : ℕ) → u ≡ Ok k → Laid o 0 (unfold_line name f u) o 0
-unfolding unfold_line
-unfold-made o name f u k e = rw e (laid-nothing o 0 (omega arith))
-
-pub ruleset unfolds = (lay-unfolded, unfold-made, unfold-room, unfold-extended, unfold-limit, unfold-file, rules)
+pub ruleset unfolds = (lay-unfolded, rules)
 
 -- ---- endings
 
-pub unfold-ending-case : (u v : Result ℕ UnfoldError) (r : Ending) → u ≡ v → r ≡ unfold_ending v → r ≡ unfold_ending u
-unfold-ending-case u v r e p = rw e p
+pub unfold-ending-made : (u : Result ℕ UnfoldError) (k : ℕ) → u ≡ Ok k → Done ≡ unfold_ending u
+unfolding unfold_ending
+unfold-ending-made u k e = rw e
 
-pub ruleset unfold-endings = (unfold-ending-case, rules)
+pub unfold-ending-refused : (u : Result ℕ UnfoldError) (x : UnfoldError) → u ≡ Err x → Refused ≡ unfold_ending u
+unfolding unfold_ending
+unfold-ending-refused u NoRoom e = rw e
+unfold-ending-refused u (BadExtended place) e = rw e
+unfold-ending-refused u OverLimit e = rw e
+unfold-ending-refused u (BadFile x) e = rw e
+
+pub ruleset unfold-endings = (unfold-ending-made, unfold-ending-refused, rules)
 
 -- ---- the entry told is the one in which the check's place lies
 

@@ -15,11 +15,13 @@ use script::tally_text;
 use session::{Refusal, refusal_row};
 use streams::Ending;
 use text::TextError;
+use tokens::Place;
 pub use unfolds::{unfold_ending, unfold_line};
 
 mod unfolds;
 
 // The counts of what was tallied: none where there is a fault.
+#[tactic(auto, unfolding(crate::specs::Told::counts_told))]
 fn counts_told(t: Result<Counts, usize>) -> Counts
     ensures { result ≡ counts_told t }
 {
@@ -52,13 +54,13 @@ fn hint_told(text: &[u8], t: Result<Counts, usize>) -> Option<Hint>
 }
 
 // The line of a text with a fault of its own.
-fn put_faulty(out: &mut [u8], name: &[u8], text: &[u8], line: usize, column: usize) -> usize
+fn put_faulty(out: &mut [u8], name: &[u8], text: &[u8], place: Place) -> usize
     requires { line_room + length name.now ≤ length out.old }
-    ensures { Laid out.old 0 (faulty_line name.now text.now line column) out.new result }
+    ensures { Laid out.old 0 (faulty_line name.now text.now place.line place.column) out.new result }
 {
     let t = tally_text(text);
     let h = hint_told(text, t);
-    misread_line(out, name, line, column, h)
+    misread_line(out, name, place, h)
 }
 
 // The line of a text whose file would be refused, at what made the byte.
@@ -73,6 +75,7 @@ fn put_unfit(out: &mut [u8], name: &[u8], text: &[u8], x: Fault) -> usize
 }
 
 // What `read` says of the text of this name, from the front of `out`: nothing where it was read. Answers its length.
+#[tactic(auto, unfolding(crate::specs::Told::read_line))]
 pub fn read_line(out: &mut [u8], name: &[u8], text: &[u8], t: Result<usize, TextError>) -> usize
     requires { line_room + length name.now ≤ length out.old }
     ensures { Laid out.old 0 (read_line name.now text.now t) out.new result }
@@ -80,12 +83,13 @@ pub fn read_line(out: &mut [u8], name: &[u8], text: &[u8], t: Result<usize, Text
     match t {
         Ok(_) => 0,
         Err(TextError::NoRoom) => room_line(out, name),
-        Err(TextError::BadText { line, column }) => put_faulty(out, name, text, line, column),
+        Err(TextError::BadText { line, column }) => put_faulty(out, name, text, Place { line, column }),
         Err(TextError::BadFile { fault }) => put_unfit(out, name, text, fault),
     }
 }
 
 // What `write` says of the file of this name.
+#[tactic(auto, unfolding(crate::specs::Told::write_line))]
 pub fn write_line(out: &mut [u8], name: &[u8], file: &[u8], t: Result<usize, TextError>) -> usize
     requires { line_room + length name.now ≤ length out.old }
     ensures { Laid out.old 0 (write_line name.now file.now t) out.new result }
@@ -96,22 +100,19 @@ pub fn write_line(out: &mut [u8], name: &[u8], file: &[u8], t: Result<usize, Tex
         Err(TextError::BadText { line, column }) => misread_line(
             out,
             name,
-            line,
-            column,
+            Place { line, column },
             None,
         ),
         Err(TextError::BadFile { fault }) => refusal_line(out, name, file, Refusal::File(fault)),
     }
 }
 
-// How either ends: done where something was made.
+// How either ends: done where something was made. `unfold_ending` stands beside it, since each has a wrong build of its own, by an error that the other has not.
 pub fn ending_of(t: Result<usize, TextError>) -> Ending
     ensures { result ≡ ending_of t }
 {
     match t {
         Ok(_) => Ending::Done,
-        Err(TextError::NoRoom) => Ending::Refused,
-        Err(TextError::BadText { line: _, column: _ }) => Ending::Refused,
-        Err(TextError::BadFile { fault: _ }) => Ending::Refused,
+        Err(_) => Ending::Refused,
     }
 }

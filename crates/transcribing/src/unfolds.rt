@@ -25,6 +25,7 @@ fn events_folded(extended: &[u8]) -> usize
 }
 
 // How many items the entry at fault is looked for among: all that there may be, where it is an item.
+#[tactic(auto, unfolding(crate::specs::Unfolds::items_told))]
 fn items_told(x: Fault) -> usize
     ensures { result ≡ items_told x }
 {
@@ -64,6 +65,7 @@ fn put_unfolded(out: &mut [u8], name: &[u8], extended: &[u8], x: Fault) -> usize
 }
 
 // What `unfold` says of the extended score of this name, from the front of `out`: nothing where it was unfolded. Answers its length.
+#[tactic(auto, unfolding(crate::specs::Unfolds::unfold_line))]
 pub fn unfold_line(
     out: &mut [u8],
     name: &[u8],
@@ -98,9 +100,6 @@ pub fn unfold_ending(u: Result<usize, UnfoldError>) -> Ending
 {
     match u {
         Ok(_) => Ending::Done,
-        Err(UnfoldError::NoRoom) => Ending::Refused,
-        Err(UnfoldError::BadExtended { place: _ }) => Ending::Refused,
-        Err(UnfoldError::OverLimit) => Ending::Refused,
-        Err(UnfoldError::BadFile { fault: _ }) => Ending::Refused,
+        Err(_) => Ending::Refused,
     }
 }

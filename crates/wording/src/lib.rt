@@ -2,7 +2,7 @@
 #![tactic(auto)]
 
 pub use figures::{put_counted, put_figure};
-pub use replies::reply_lines;
+pub use replies::{put_row_words, reply_lines, row_number};
 use session::Refusal;
 pub use table::{placed, put_text_words, put_unfold_words, put_words};
 use text::TextError;

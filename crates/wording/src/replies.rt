@@ -46,9 +46,9 @@ const REPLY_ROWS: [Row; 30] = [
     Row::Call(Refusal::File(Fault::BadItem(ItemRule::Actions, 36))),
 ];
 
-// The row's number, and its words behind the first `at` bytes.
+// The row's number.
 #[tactic(auto, unfolding(crate::specs::Words::row_number))]
-fn row_number(x: Row) -> usize
+pub fn row_number(x: Row) -> usize
     ensures { result ≡ row_number x }
 {
     match x {
@@ -58,8 +58,9 @@ fn row_number(x: Row) -> usize
     }
 }
 
+// The row's words, behind the first `at` bytes.
 #[tactic(auto, unfolding(crate::specs::Words::row_words))]
-fn put_row_words(out: &mut [u8], at: usize, x: Row) -> usize
+pub fn put_row_words(out: &mut [u8], at: usize, x: Row) -> usize
     requires { at + most_words ≤ length out.old }
     ensures { Laid out.old at (row_words x) out.new result × (result ≤ at + most_words) }
 {

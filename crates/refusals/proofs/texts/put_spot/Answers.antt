@@ -3,17 +3,5 @@
 use Rattle.refusals.proofs.TextLaws.{telling}
 use Rattle.refusals.proofs.texts.put_spot.Goals as goal
 
-pub put_bytes-at-requires : goal.put_bytes-at-requires
-put_bytes-at-requires c = search telling
-
-pub put_counted-at-requires : goal.put_counted-at-requires
-put_counted-at-requires c = search telling
-
-pub put_counted-requires : goal.put_counted-requires
-put_counted-requires c = search telling
-
-pub shape_of-out : goal.shape_of-out
-shape_of-out c = search telling
-
 pub returns : goal.returns
 returns c = search telling
