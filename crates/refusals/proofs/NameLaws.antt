@@ -2,7 +2,7 @@
 -- Assumes nothing.
 use mathlib.Core.Path.{◌≡◌}
 use mathlib.Core.Bool.{Bool, true, false, not}
-use mathlib.Core.List.{List, [], ◌∷◌, ◌++◌}
+use mathlib.Core.List.{List, [], ◌∷◌}
 use Prim.Native.Nat.{ℕ, ◌+◌, ◌≤◌}
 use native.Mathlib.Omega.{arith}
 use lib.Dec.{leb}
@@ -11,18 +11,11 @@ use borrow.Author.Rules.{rules}
 use borrow.Author.Tests.{leb-true}
 use Rattle.base.specs.Tests.{pick}
 use Rattle.base.proofs.TestLaws.{told-true, told-false}
-use Rattle.ascii.specs.Decimals.{decimal}
 use Rattle.ascii.specs.Laying.{Laid}
-use Rattle.ascii.specs.Text.{bytes_of}
 use Rattle.ascii.proofs.LayLaws.{laid-nothing, laid-join}
-use Rattle.contents.specs.declared.Fault.{Fault}
-use Rattle.contents.specs.declared.Fault.TheVariants.{BadItem}
-use Rattle.contents.specs.declared.ItemRule.{ItemRule}
 use Rattle.session.specs.declared.Refusal.{Refusal}
-use Rattle.session.specs.declared.Refusal.TheVariants.{File}
 use Rattle.contents.specs.declared.entries.Entry.{Entry}
-use Rattle.contents.specs.declared.entries.Entry.TheVariants.{Nowhere, Contents, Event, Item, Message}
-use Rattle.refusals.specs.Entries.{field_words, field_count, name_words, name_room, is_entry, entry_words, entry_room, rule_field, rule_room, fault_field, refusal_field, named_words}
+use Rattle.refusals.specs.Entries.{field_words, field_count, name_words, name_room, is_entry, entry_words, entry_room, refusal_field, named_words}
 
 -- ---- a field of the contents
 

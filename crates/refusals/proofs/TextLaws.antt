@@ -1,6 +1,6 @@
 -- The lines of a refused text: name, numbers and words, laid one behind the other.
 -- Assumes nothing.
-use Rattle.std.specs.Prelude.{Result, Err, Option, None}
+use Rattle.std.specs.Prelude.{Err, Option, None}
 use mathlib.Core.Path.{◌≡◌}
 use mathlib.Core.List.{List, [], ◌∷◌, ◌++◌}
 use Prim.Native.Nat.{ℕ}
@@ -16,8 +16,6 @@ use Rattle.session.specs.declared.Refusal.{Refusal}
 use Rattle.session.specs.Replies.{refusal_row}
 use Rattle.text.specs.declared.TextError.{TextError}
 use Rattle.text.specs.declared.TextError.TheVariants.{NoRoom, BadText}
-use Rattle.text.specs.declared.TextReply.{TextReply}
-use Rattle.text.specs.Replies.{transcript_row}
 use Rattle.tokens.specs.declared.Place.{Place}
 use Rattle.hints.specs.declared.Hint.{Hint}
 use Rattle.hints.specs.Hints.{hint_words}

@@ -1,26 +1,21 @@
 -- The line of an extended score that is refused: name, number, place, item and words, laid one behind the other.
 -- Assumes nothing.
 use mathlib.Core.Path.{◌≡◌, refl}
-use mathlib.Core.List.{List, [], ◌∷◌, ◌++◌}
+use mathlib.Core.List.{List, ◌++◌}
 use Prim.Native.Nat.{ℕ, zero, suc, ◌+◌, ◌-◌, ◌*◌, ◌/◌, ◌<◌, ◌≤◌}
 use native.Mathlib.Omega.{arith}
 use lib.ListN.{length}
 use borrow.Author.Rules.{rules}
 use borrow.Author.Tests.{le-leb, lt-leb}
-use Rattle.std.specs.Prelude.{Result, Ok, Err, None}
+use Rattle.std.specs.Prelude.{Result, None}
 use Rattle.base.specs.Tests.{pick}
-use Rattle.ascii.specs.Words.{newline}
 use Rattle.ascii.specs.Decimals.{decimal}
 use Rattle.ascii.specs.Text.{bytes_of}
 use Rattle.ascii.specs.Laying.{Laid}
 use Rattle.ascii.proofs.LayLaws.{laid-join, laid-nothing}
-use Rattle.contents.specs.declared.Fault.{Fault}
 use Rattle.extended.specs.declared.Extent.{Extent}
 use Rattle.extended.specs.Layout.{extended_contents, folded_size, extent_of, items_start}
 use Rattle.unfolding.specs.declared.UnfoldError.{UnfoldError}
-use Rattle.unfolding.specs.declared.UnfoldError.TheVariants.{NoRoom, BadExtended, OverLimit, BadFile}
-use Rattle.unfolding.specs.declared.UnfoldReply.{UnfoldReply}
-use Rattle.unfolding.specs.Replies.{unfold_row}
 use Rattle.wording.specs.declared.Row.TheVariants.{Unfold}
 use Rattle.wording.specs.Words.{row_number, row_words}
 use Rattle.hints.specs.Hints.{hint_words}

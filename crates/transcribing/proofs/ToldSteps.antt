@@ -4,11 +4,9 @@ use Rattle.std.specs.Prelude.{Result, Ok, Err, Option, None}
 use mathlib.Core.Path.{◌≡◌, sym, ◌∙◌}
 use mathlib.Core.List.{List}
 use Prim.Native.Nat.{ℕ, ◌≤◌}
-use native.Mathlib.Omega.{arith}
 use lib.ListN.{length}
 use borrow.Author.Rules.{rules}
 use Rattle.ascii.specs.Laying.{Laid}
-use Rattle.ascii.proofs.LayLaws.{laid-nothing}
 use Rattle.contents.specs.declared.Counts.{Counts}
 use Rattle.contents.specs.declared.Fault.{Fault}
 use Rattle.contents.specs.declared.Reply.{Reply}
@@ -22,12 +20,11 @@ use Rattle.text.specs.declared.TextError.TheVariants.{NoRoom, BadText, BadFile}
 use Rattle.text.specs.Said.{said}
 use Rattle.script.specs.Tallies.{tally_of}
 use Rattle.script.proofs.BalancedLaws.{fault-within}
-use Rattle.refusals.specs.Line.{refusal_line}
 use Rattle.origins.specs.Origins.{place_in_text}
 use Rattle.hints.specs.declared.Hint.{Hint}
 use Rattle.hints.specs.Hints.{hint_at, fault_hint}
-use Rattle.refusals.specs.Texts.{misread_line, room_line, misfit_line}
-use Rattle.transcribing.specs.Told.{counts_told, counts_said, hint_told, faulty_line, unfit_line, read_line, write_line, ending_of}
+use Rattle.refusals.specs.Texts.{misread_line, misfit_line}
+use Rattle.transcribing.specs.Told.{counts_told, counts_said, hint_told, faulty_line, unfit_line, ending_of}
 
 -- ---- counts
 

@@ -10,7 +10,6 @@ use borrow.Author.Tests.{le-leb, lt-leb, lt-ltb, le-ltb}
 use Rattle.std.specs.Prelude.{Result, Ok, Err}
 use Rattle.base.specs.Tests.{pick}
 use Rattle.ascii.specs.Laying.{Laid}
-use Rattle.ascii.proofs.LayLaws.{laid-nothing}
 use Rattle.contents.specs.declared.Counts.{Counts}
 use Rattle.contents.specs.declared.Fault.{Fault}
 use Rattle.contents.specs.declared.Fault.TheVariants.{BadEvent, BadItem}
@@ -28,8 +27,7 @@ use Rattle.unfolding.specs.declared.UnfoldError.TheVariants.{NoRoom, BadExtended
 use Rattle.contents.specs.declared.entries.Entry.TheVariants.{Event, Item}
 use Rattle.contents.specs.Entries.{entry_at}
 use Rattle.refusals.specs.Texts.{unmade_line}
-use Rattle.refusals.specs.Unfolds.{folded_line}
-use Rattle.transcribing.specs.Unfolds.{events_folded, items_told, counts_folded, unfold_line, unfold_ending}
+use Rattle.transcribing.specs.Unfolds.{events_folded, items_told, counts_folded, unfold_ending}
 
 -- ---- counts
 

@@ -83,7 +83,12 @@ pub fn read_line(out: &mut [u8], name: &[u8], text: &[u8], t: Result<usize, Text
     match t {
         Ok(_) => 0,
         Err(TextError::NoRoom) => room_line(out, name),
-        Err(TextError::BadText { line, column }) => put_faulty(out, name, text, Place { line, column }),
+        Err(TextError::BadText { line, column }) => put_faulty(
+            out,
+            name,
+            text,
+            Place { line, column },
+        ),
         Err(TextError::BadFile { fault }) => put_unfit(out, name, text, fault),
     }
 }

@@ -12,7 +12,7 @@ returns-in_err-check_file-clause-value c =
 
 pub returns-in_err-check_file-clause-room_after : goal.returns-in_err-check_file-clause-room_after
 returns-in_err-check_file-clause-room_after c =
-    let e : c.from_residual.result ≡ Err (BadFile c.in_err-check_file.field-0.0) = search rules in search (answers, e, c.in_err-check_file.was)
+    let e : c.from_residual.result ≡ Err (BadFile c.in_err-check_file.field-0.0) = search rules in search (answers, e)
 
 pub write_accepted-requires : goal.write_accepted-requires
 write_accepted-requires c = search (answers, c.in_ok-check_file.was)
