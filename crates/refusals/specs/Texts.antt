@@ -29,7 +29,7 @@ spot_words name l c = name ++ ((bytes_of ":" ++ decimal l) ++ (bytes_of ":" ++ d
 unfoldable pub row_refused : Row → List ℕ
 row_refused x = bytes_of ": refused " ++ decimal (row_number x)
 
-unfoldable pub row_end : Row → Hint → List ℕ
+unfoldable pub row_end : Row → Option Hint → List ℕ
 row_end x h = bytes_of ": " ++ (row_words x ++ (hint_words h ++ (newline ∷ [])))
 
 -- That it is refused, with the row's number and words, and the hint.
