@@ -4,15 +4,6 @@ use Rattle.opening.specs.Replies.{opening_reply}
 use borrow.Author.Rules.{rules}
 use Rattle.opening.proofs.replies.opening_reply.Goals as goal
 
-pub enum_known-o : goal.enum_known-o
-enum_known-o c = search rules
-
-pub enum_known-o-in-Err-1 : goal.enum_known-o-in-Err-1
-enum_known-o-in-Err-1 c = search rules
-
-pub refusal_row-r-requires : goal.refusal_row-r-requires
-refusal_row-r-requires c = search rules
-
 pub returns-in-Ok : goal.returns-in-Ok
 unfolding opening_reply
 returns-in-Ok c = cc
