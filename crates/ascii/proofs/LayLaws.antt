@@ -7,7 +7,6 @@ use native.Mathlib.Numerals.{add-one}
 use native.Mathlib.Omega.{arith}
 use lib.ListN.{length, take, drop, set, replicate, length-append, length-set, length-take, length-drop, length-replicate}
 use lib.Seq.{take-add, take-set-le, take-suc-set, drop-cons, drop-set-lt, drop-drop, get_or-set_same}
-use borrow.Author.Rules.{rules}
 use borrow.Rule.Slice.PartMut.{put_mid, same_len_mid}
 use Rattle.std.proofs.lemmas.Slice.{take-put_mid, drop-put_mid}
 use Rattle.ascii.specs.Words.{space}
@@ -84,5 +83,3 @@ laid-spaces o ys a count p e =
     let l : length (take (a + count - a) (drop a o)) ≡ count = omega (arith, length-take {A = ℕ}, length-drop {A = ℕ}) in
     let n : length (replicate count space) ≡ count = length-replicate count space in
     rw n at (laid-part o (replicate count space) ys a (omega arith) (rw l at e))
-
-pub ruleset copying = (laid-byte, rules)

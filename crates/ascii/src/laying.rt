@@ -1,4 +1,5 @@
 // Bytes and numbers laid in lent bytes, one behind the other. Each function answers where the next begins.
+// A place beside the bytes, and no writer that has both: `Laid` and `one-laid` say what stands before the place and behind it, of bytes that each caller lends to others as well.
 ghost use Rattle.std.specs.Prelude.{◌≡◌, [], ◌∷◌, ◌+◌, ◌%◌, ◌≤◌, ◌<◌, length, replicate};
 ghost use Rattle.ascii.specs.Words.{space, zero_digit};
 ghost use Rattle.ascii.specs.Decimals.{most_places, digits_of, decimal};
@@ -79,6 +80,7 @@ fn places(n: u64) -> usize
 }
 
 // The number's digits, of which there are so many, from the last to the first, two at a time.
+// A `while`: by `for` the places would count up, while the number loses its last two digits at each step.
 fn put_places(out: &mut [u8], at: usize, places: usize, n: u64) -> usize
     requires { (places ≡ length (decimal n)) × (at + places ≤ length out.old) }
     ensures { Laid out.old at (decimal n) out.new result }
