@@ -18,6 +18,7 @@ pub enum Command {
 }
 
 // What reading on in a chunk has come to: where the next line begins, how many bytes of the line are kept, and whether it has ended.
+// A `bool`, since both numbers hold either way: a variant for each would say them twice.
 #[derive(Clone, Copy)]
 pub struct Fed {
     pub next: usize,

@@ -1,4 +1,5 @@
 // The lines that `play` prints, laid out from the front of `out`, or behind what stands there. Each function answers where the line ends.
+// Each asks for room by a clause: a type around the lent bytes would be built at each call, and taken apart again in it.
 ghost use Rattle.std.specs.Prelude.{◌+◌, ◌≤◌, length};
 ghost use Rattle.ascii.specs.Decimals.{most_places};
 ghost use Rattle.ascii.specs.Laying.{Laid};
