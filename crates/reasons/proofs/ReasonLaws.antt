@@ -1,18 +1,20 @@
 -- An error number's row, in the code's own terms, and the lines, laid one part behind the other.
 -- Assumes nothing.
-use mathlib.Core.Path.{◌≡◌, refl}
-use mathlib.Core.Bool.{true, false}
+use mathlib.Core.Path.{◌≡◌, refl, ◌∙◌}
+use mathlib.Core.Bool.{true}
 use mathlib.Core.List.{List, [], ◌∷◌, ◌++◌}
 use Prim.Native.Nat.{ℕ, ◌+◌, ◌≤◌}
 use native.Mathlib.Omega.{arith}
 use lib.ListN.{length}
-use lib.Dec.{T, leb}
+use lib.Dec.{leb}
 use lib.IntN.{ℤ, pos, negsuc, nat_abs}
-use lib.Signed.{lt_z, non_neg}
 use mir.Syntax.{w32, w64}
+use Rattle.std.specs.Prelude.{Result, Ok, Err}
+use Rattle.std.specs.Result.{OkIff, result_unwrap_or}
+use Rattle.std.specs.Int.{FitsUnsignedBits}
 use mir.Val.{Fits, SFits, of_z, to_z}
 use mir.Facts.{to_z-of_z, Fits-nat_abs}
-use borrow.Author.Tests.{ne_eqb, ltb-true, leb-true}
+use borrow.Author.Tests.{ne_eqb, leb-true}
 use borrow.Author.Rules.{rules}
 use Rattle.base.specs.Tests.{pick}
 use Rattle.ascii.specs.Words.{newline}
@@ -24,35 +26,21 @@ use Rattle.reasons.specs.Reasons.{Reason, reason_table, words_in, reason_words, 
 
 -- ---- the error number
 
-not-below : (z : ℤ) → lt_z z (pos 0) ≡ false → T (non_neg z)
-not-below (pos n) p = tt
-not-below (negsuc n) p = let z : ◌≡◌ {A = ℕ} 0 1 = cc in absurd (omega arith)
-
-number-told : (z : ℤ) → lt_z z (pos 0) ≡ false → nat_abs z ≡ error_number z
+number-from : {E : Type 0} (z : ℤ) (r : Result ℕ E) → SFits w32 z → OkIff r (FitsUnsignedBits 64 z) (nat_abs z) → result_unwrap_or r 0 ≡ error_number z
 unfolding error_number
-number-told (pos n) p = refl
-number-told (negsuc n) p = let z : ◌≡◌ {A = ℕ} 0 1 = cc in absurd (omega arith)
-
-number-none : (z : ℤ) → lt_z z (pos 0) ≡ true → 0 ≡ error_number z
-unfolding error_number
-number-none (pos n) p = absurd (omega (arith, ltb-true n 0 p))
-number-none (negsuc n) p = refl
+number-from (pos n) (Ok x) f p = p.1
+number-from (pos n) (Err e) f p = let h : Fits w64 n = Fits-nat_abs {w' = w64} tt f in absurd (p h.fits)
+number-from (negsuc n) (Ok x) f p = absurd p.0
+number-from (negsuc n) (Err e) f p = refl
 
 module _ (z : ℤ) (f : SFits w32 z) where
-  pub error-cast : lt_z (to_z w32 (of_z w32 z)) (pos 0) ≡ false → T (non_neg (to_z w32 (of_z w32 z))) × Fits w64 (nat_abs (to_z w32 (of_z w32 z)))
-  error-cast p = (not-below (to_z w32 (of_z w32 z)) p, rw (to_z-of_z f) (Fits-nat_abs tt f))
-
-  pub error-told : lt_z (to_z w32 (of_z w32 z)) (pos 0) ≡ false → nat_abs (to_z w32 (of_z w32 z)) ≡ error_number z
-  error-told p = let q : lt_z z (pos 0) ≡ false = rw (← to_z-of_z f) p in rw (to_z-of_z f) (number-told z q)
-
-  pub error-none : lt_z (to_z w32 (of_z w32 z)) (pos 0) ≡ true → 0 ≡ error_number z
-  error-none p = let q : lt_z z (pos 0) ≡ true = rw (← to_z-of_z f) p in number-none z q
+  pub error-from : {E : Type 0} (r : Result ℕ E) (k : ℕ) → OkIff r (FitsUnsignedBits 64 (to_z w32 (of_z w32 z))) (nat_abs (to_z w32 (of_z w32 z))) → k ≡ result_unwrap_or r 0
+      → k ≡ error_number z
+  error-from r k p e = e ∙ number-from z r f (rw (to_z-of_z f) at p)
 
   -- as a caller reads it
   pub error-read : (k : ℕ) → k ≡ error_number (to_z w32 (of_z w32 z)) → k ≡ error_number z
   error-read k e = rw (to_z-of_z f) at e
-
-pub ruleset numbering = (error-cast, error-told, error-none, rules)
 
 -- ---- the words
 

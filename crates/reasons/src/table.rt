@@ -11,10 +11,7 @@ use ascii::{put_bytes, put_number};
 pub fn error_number(error: i32) -> u64
     ensures { result ≡ error_number error }
 {
-    if error < 0 {
-        return 0;
-    }
-    error as u64
+    u64::try_from(error).unwrap_or(0)
 }
 
 // An error number that has no words.
@@ -27,6 +24,7 @@ fn put_error(out: &mut [u8], at: usize, n: u64) -> usize
 }
 
 // The words of an error number behind the first `at` bytes. Answers where the next byte goes.
+// A `match`, which is the table itself: each arm is a row, its number and its words.
 pub fn put_reason(out: &mut [u8], at: usize, n: u64) -> usize
     requires { at + reason_room ≤ length out.old }
     ensures { Laid out.old at (reason_words n) out.new result × (result ≤ at + reason_room) }
