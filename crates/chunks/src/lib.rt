@@ -8,6 +8,7 @@ ghost use Rattle.chunks.specs.Inner.{reading_of, Going, WentOn, Ended};
 use playing::play_line;
 
 // How far the input is read: how many lines have ended, how many bytes of the next are kept, the grace that an opening is given, and whether a session is open.
+// A `bool`, since lines are counted and bytes kept whether a session is open or not.
 #[derive(Clone, Copy)]
 pub struct Progress {
     pub lines: u64,
@@ -25,6 +26,7 @@ pub struct Step {
 }
 
 // Reads on in the chunk from `at`, up to the line's end or the chunk's. The line that ends is carried out; of one that does not, the first bytes are kept.
+// A place in the chunk, and not its rest: `Going` bounds the lines by the chunk's length, and `read-on` goes from one place to the next.
 pub fn go_on(
     file: &[u8],
     mem: &mut [u64],

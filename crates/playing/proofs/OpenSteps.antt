@@ -3,7 +3,7 @@
 use mathlib.Core.Path.{◌≡◌, refl, sym, subst, ◌∙◌}
 use mathlib.Core.Bool.{Bool, true, false}
 use mathlib.Core.List.{List, [], ◌∷◌}
-use Prim.Native.Nat.{ℕ, ◌%◌, ◌≤◌}
+use Prim.Native.Nat.{ℕ, ◌≤◌}
 use native.Mathlib.Omega.{arith}
 use lib.Dec.{leb, eqb}
 use lib.ListN.{length}
@@ -28,7 +28,6 @@ use Rattle.opening.specs.declared.OpeningReply.{OpeningReply}
 use Rattle.opening.specs.Opening.{opening_check, opened}
 use Rattle.opening.specs.Replies.{opening_reply}
 use Rattle.opening.proofs.Opened.{opened-accepted, refused-kept}
-use Rattle.lines.specs.Commands.{most_parts}
 use Rattle.lines.specs.Output.{open_line}
 use Rattle.playing.specs.Printed.{carried_opening}
 use Rattle.playing.specs.Refused.{why_refused}
@@ -73,18 +72,15 @@ zero-accepted m f o (refused x) p e =
 
 -- ---- what is printed, and the stand after it
 
-module _ (f m m' : List ℕ) (parts tempo grace : ℕ) (a : Result ℕ Refusal) (r : OpeningReply) (few : parts ≤ most_parts)
-    (told : opened m f (record { parts = parts % 65536; tempo = tempo; grace = grace }) ≡ record { reply = a; memory = m' }) (row : r ≡ opening_reply a) where
-  whole : opened m f (record { parts = parts; tempo = tempo; grace = grace }) ≡ record { reply = a; memory = m' }
-  whole = let e : parts % 65536 ≡ parts = omega arith in rw e at told
-
+module _ (f m m' : List ℕ) (parts tempo grace : ℕ) (a : Result ℕ Refusal) (r : OpeningReply)
+    (told : opened m f (record { parts = parts; tempo = tempo; grace = grace }) ≡ record { reply = a; memory = m' }) (row : r ≡ opening_reply a) where
   pub opening-accepted : eqb r.number 0 ≡ true → Accepted f
-  opening-accepted t = zero-accepted m f (record { parts = parts; tempo = tempo; grace = grace }) _ refl (rw (whole, ← row) t)
+  opening-accepted t = zero-accepted m f (record { parts = parts; tempo = tempo; grace = grace }) _ refl (rw (told, ← row) t)
 
-  pub opening-carries : (room out new : List ℕ) (n : ℕ) → Laid out 0 (open_line r.number r.parts) new n
+  pub opening-carries : (room out new : List ℕ) (n p : ℕ) → p ≡ r.parts → Laid out 0 (open_line r.number p) new n
       → Carries (carried_opening room (opened m f (record { parts = parts; tempo = tempo; grace = grace }))) out m' room new (eqb r.number 0) n
   unfolding carried_opening
-  opening-carries room out new n laid = rw (whole, ← row) (record { memory = refl; room = refl; opened = refl; output = laid })
+  opening-carries room out new n p e laid = rw (told, ← row) (record { memory = refl; room = refl; opened = refl; output = rw e at laid })
 
 pub ruleset openings = (opening-accepted, opening-carries, rules)
 

@@ -23,6 +23,7 @@ pub use openings::why_refused;
 pub const OUTPUT_ROOM: usize = 114688;
 
 // A line carried out: how many bytes it prints, and whether a session is open after it.
+// A `bool`, since it says nothing of the count: a line prints whether a session is open or not.
 #[derive(Clone, Copy)]
 pub struct Line {
     pub count: usize,
@@ -39,6 +40,7 @@ fn bad_line(number: u64, opened: bool, out: &mut [u8]) -> Line
 }
 
 // Carries out line `number` of the input: what it prints are the first bytes of `out`, and the others stay. An opening is given the grace.
+// File, memory, room and output are lent apart, since the session's calls take some of them each, and `Carries` speaks of each.
 pub fn play_line(
     file: &[u8],
     grace: u64,

@@ -27,9 +27,9 @@ pub fn open_line(
         out.old mem.new room.now out.new result.opened result.count
         × (result.opened ≡ true → Accepted file.now) }
 {
-    let bits = (parts % 65536) as u16;
+    let bits = parts as u16;
     let r = opening::opening_reply(opening::open_session(mem, file, bits, tempo, grace));
-    let count = lines::open_line(out, r.number as u64, r.parts as u64);
+    let count = lines::open_line(out, r.number as u64, u64::from(r.parts));
     Line {
         count,
         opened: r.number == 0,

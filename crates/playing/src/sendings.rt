@@ -1,4 +1,5 @@
 // What a heard note or passing time prints: a line for each message in the send room, or the refusal's number.
+// Each asks for room by a clause: a type around the lent bytes would be built at each call, and taken apart again in it.
 ghost use Rattle.std.specs.Prelude.{◌≡◌, true, ◌+◌, ◌*◌, ◌≤◌, length};
 ghost use Rattle.ascii.specs.Laying.{Laid};
 ghost use Rattle.session.specs.Layout.{most_sent};

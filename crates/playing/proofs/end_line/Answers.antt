@@ -3,8 +3,5 @@
 use Rattle.playing.proofs.CallSteps.{ends}
 use Rattle.playing.proofs.end_line.Goals as goal
 
-pub shape_of-out : goal.shape_of-out
-shape_of-out c = search ends
-
 pub returns : goal.returns
 returns c = search ends

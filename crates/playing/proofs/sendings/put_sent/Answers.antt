@@ -3,9 +3,6 @@
 use Rattle.playing.proofs.CallSteps.{answers}
 use Rattle.playing.proofs.sendings.put_sent.Goals as goal
 
-pub put_messages-requires : goal.put_messages-requires
-put_messages-requires c = search answers
-
 pub returns-in-Ok : goal.returns-in-Ok
 returns-in-Ok c = search answers
 
