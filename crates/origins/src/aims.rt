@@ -98,7 +98,7 @@ pub fn share_of(aim: Aim, c: Counts) -> usize
         Aim::Nothing => 0,
         Aim::TextEnd => 0,
         Aim::ListEnd => 0,
-        Aim::Past { table, n: _ } => count_of(table, c),
+        Aim::Past { table, .. } => count_of(table, c),
     }
 }
 
@@ -110,7 +110,7 @@ pub fn hits(aim: Aim, share: usize) -> bool
         Aim::Nothing => false,
         Aim::TextEnd => false,
         Aim::ListEnd => false,
-        Aim::Past { table: _, n } => n < share,
+        Aim::Past { n, .. } => n < share,
     }
 }
 

@@ -29,18 +29,11 @@ pub fn added_by(found: Found) -> Counts
 {
     match found {
         Found::Heading => counts(0, 0, 0, 0),
-        Found::Message { start: _, size } => counts(0, 0, 1, size),
-        Found::Event { grains: _ } => counts(1, 0, 0, 0),
-        Found::Part { number: _ } => counts(0, 0, 0, 0),
-        Found::Send {
-            delay: _,
-            number: _,
-        } => counts(0, 1, 0, 0),
-        Found::Group {
-            delay: _,
-            synchrony: _,
-            error: _,
-        } => counts(0, 1, 0, 0),
+        Found::Message { size, .. } => counts(0, 0, 1, size),
+        Found::Event { .. } => counts(1, 0, 0, 0),
+        Found::Part { .. } => counts(0, 0, 0, 0),
+        Found::Send { .. } => counts(0, 1, 0, 0),
+        Found::Group { .. } => counts(0, 1, 0, 0),
         Found::Close => counts(0, 0, 0, 0),
     }
 }
@@ -52,18 +45,11 @@ pub fn list_end(found: Found, listed: usize, next: usize) -> usize
 {
     match found {
         Found::Heading => next,
-        Found::Message { start: _, size: _ } => next,
-        Found::Event { grains: _ } => listed,
-        Found::Part { number: _ } => listed,
-        Found::Send {
-            delay: _,
-            number: _,
-        } => listed,
-        Found::Group {
-            delay: _,
-            synchrony: _,
-            error: _,
-        } => listed,
+        Found::Message { .. } => next,
+        Found::Event { .. } => listed,
+        Found::Part { .. } => listed,
+        Found::Send { .. } => listed,
+        Found::Group { .. } => listed,
         Found::Close => listed,
     }
 }
@@ -86,18 +72,11 @@ pub fn token_at(text: &[u8], at: usize, found: Found) -> usize
 {
     match found {
         Found::Heading => at,
-        Found::Message { start: _, size: _ } => quote_at(text, at),
-        Found::Event { grains: _ } => at,
-        Found::Part { number: _ } => at,
-        Found::Send {
-            delay: _,
-            number: _,
-        } => at,
-        Found::Group {
-            delay: _,
-            synchrony: _,
-            error: _,
-        } => at,
+        Found::Message { .. } => quote_at(text, at),
+        Found::Event { .. } => at,
+        Found::Part { .. } => at,
+        Found::Send { .. } => at,
+        Found::Group { .. } => at,
         Found::Close => at,
     }
 }

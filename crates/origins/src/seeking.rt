@@ -20,7 +20,7 @@ fn ended(text: &[u8], aim: Aim, listed: usize) -> Option<usize>
         Aim::Nothing => None,
         Aim::TextEnd => Some(text.len()),
         Aim::ListEnd => Some(listed),
-        Aim::Past { table: _, n: _ } => None,
+        Aim::Past { .. } => None,
     }
 }
 

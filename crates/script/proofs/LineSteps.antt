@@ -1,11 +1,12 @@
 -- Each way in which a line is read, in the code's own terms: what the calls told decides.
 -- Assumes nothing.
-use Rattle.std.specs.Prelude.{Result, Ok, Err}
+use Rattle.std.specs.Prelude.{Option, Some, None, Result, Ok, Err}
 use mathlib.Core.Path.{◌≡◌, refl, sym, ◌∙◌}
 use mathlib.Core.Bool.{Bool, true, false}
 use mathlib.Core.List.{List, [], ◌∷◌}
 use Prim.Native.Nat.{ℕ, ◌+◌, ◌<◌, ◌≤◌}
 use native.Mathlib.Omega.{arith}
+use lib.Dec.{ltb}
 use lib.ListN.{length, drop, get_or, drop_of_length-le}
 use borrow.Author.Tests.{eq-eqb, ne_eqb, lt-ltb, le-ltb}
 use borrow.Author.Rules.{rules}
@@ -21,8 +22,8 @@ use Rattle.text.specs.Words.{send_word, group_word, message_field, part_field, a
 use Rattle.text.specs.Grammar.{Line, message, named, entry, timed, parted, sent, opened, synchrony_at, error_at, erring, grouped, action, item, closed}
 use Rattle.script.specs.declared.Found.TheVariants.{Message, Event, Part, Send, Group, Close}
 use Rattle.script.specs.declared.Step.{Step}
-use Rattle.script.specs.Steps.{PassesWord, line_of, as_line, ends_at, Lines, fits_message, fits_event, fits_part, fits_send, fits_group, fits_close, fits_read, fits_fault}
-use Rattle.script.proofs.WordSteps.{send-stands, group-stands, synchrony-stands, error-stands}
+use Rattle.script.specs.Steps.{PassesWord, known, line_of, as_line, ends_at, Lines, fits_message, fits_event, fits_part, fits_send, fits_group, fits_close, fits_read, fits_fault}
+use Rattle.script.proofs.WordSteps.{send-stands, group-stands, known-some, known-none, synchrony-low, synchrony-stands, error-low, error-stands}
 
 pub fault-lines : (t : List ℕ) (what : Read Line) (at : ℕ) → at ≤ length t → what ≡ stop (drop at t) → Lines t what (Err at)
 unfolding as_line ends_at
@@ -143,33 +144,35 @@ pub ruleset braces = (opened-none, opened-other, opened-read, rules)
 
 -- ---- a group's words
 
-module _ (t : List ℕ) (at delay w v : ℕ) (told : v ≡ error_at (drop at t)) where
-  pub erring-none : (r : Result Step ℕ) → 4 ≤ v → Lines t (opened delay w 0 (drop at t)) r → Lines t (erring delay w (drop at t)) r
+module _ (t : List ℕ) (at delay w : ℕ) (v : Option ℕ) (told : v ≡ known 4 (error_at (drop at t))) where
+  pub erring-none : (r : Result Step ℕ) → v ≡ None → Lines t (opened delay w 0 (drop at t)) r → Lines t (erring delay w (drop at t)) r
   unfolding erring pick
-  erring-none r p l = let e = rw told at (le-ltb v 4 p) in rw e l
+  erring-none r p l = let e = known-none 4 (error_at (drop at t)) (sym told ∙ p) in rw e l
 
-  pub erring-read : (r : Result Step ℕ) (k : ℕ) → v < 4 → PassesWord t at k → Lines t (opened delay w v (drop k t)) r → Lines t (erring delay w (drop at t)) r
+  pub erring-read : (r : Result Step ℕ) (k x : ℕ) → v ≡ Some x → PassesWord t at k → Lines t (opened delay w x (drop k t)) r → Lines t (erring delay w (drop at t)) r
   unfolding erring pick
-  erring-read r k p b l =
-      let e = rw told at (lt-ltb v 4 p) in
-      let m = rw told at l in
+  erring-read r k x p b l =
+      let q = known-some 4 (error_at (drop at t)) x (sym told ∙ p) in
+      let e : ltb (error_at (drop at t)) 4 ≡ true = rw (← q.0) (lt-ltb x 4 q.1) in
+      let m : Lines t (opened delay w (error_at (drop at t)) (drop k t)) r = rw (← q.0) l in
       rw (e, b.left) m
 
-pub ruleset erroring = (error-stands, erring-none, erring-read, rules)
+pub ruleset erroring = (error-low, error-stands, erring-none, erring-read, rules)
 
-module _ (t : List ℕ) (at delay w : ℕ) (told : w ≡ synchrony_at (drop at t)) where
-  pub grouped-none : (r : Result Step ℕ) → 2 ≤ w → Lines t (erring delay 0 (drop at t)) r → Lines t (grouped delay (drop at t)) r
+module _ (t : List ℕ) (at delay : ℕ) (v : Option ℕ) (told : v ≡ known 2 (synchrony_at (drop at t))) where
+  pub grouped-none : (r : Result Step ℕ) → v ≡ None → Lines t (erring delay 0 (drop at t)) r → Lines t (grouped delay (drop at t)) r
   unfolding grouped pick
-  grouped-none r p l = let e = rw told at (le-ltb w 2 p) in rw e l
+  grouped-none r p l = let e = known-none 2 (synchrony_at (drop at t)) (sym told ∙ p) in rw e l
 
-  pub grouped-read : (r : Result Step ℕ) (k : ℕ) → w < 2 → PassesWord t at k → Lines t (erring delay w (drop k t)) r → Lines t (grouped delay (drop at t)) r
+  pub grouped-read : (r : Result Step ℕ) (k w : ℕ) → v ≡ Some w → PassesWord t at k → Lines t (erring delay w (drop k t)) r → Lines t (grouped delay (drop at t)) r
   unfolding grouped pick
-  grouped-read r k p b l =
-      let e = rw told at (lt-ltb w 2 p) in
-      let m = rw told at l in
+  grouped-read r k w p b l =
+      let q = known-some 2 (synchrony_at (drop at t)) w (sym told ∙ p) in
+      let e : ltb (synchrony_at (drop at t)) 2 ≡ true = rw (← q.0) (lt-ltb w 2 q.1) in
+      let m : Lines t (erring delay (synchrony_at (drop at t)) (drop k t)) r = rw (← q.0) l in
       rw (e, b.left) m
 
-pub ruleset grouping = (synchrony-stands, grouped-none, grouped-read, rules)
+pub ruleset grouping = (synchrony-low, synchrony-stands, grouped-none, grouped-read, rules)
 
 -- ---- what stands behind a delay
 

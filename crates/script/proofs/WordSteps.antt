@@ -1,5 +1,6 @@
 -- Which word stands, and what stands behind it, in the code's own terms.
 -- Assumes nothing.
+use Rattle.std.specs.Prelude.{Option, Some, None}
 use mathlib.Core.Path.{◌≡◌, refl, sym, ◌∙◌}
 use mathlib.Core.Bool.{Bool, true, false}
 use mathlib.Core.List.{List}
@@ -7,6 +8,8 @@ use Prim.Native.Nat.{ℕ, ◌+◌, ◌<◌, ◌≤◌}
 use native.Mathlib.Omega.{arith}
 use lib.ListN.{length, drop, length-drop}
 use lib.Seq.{drop-drop}
+use lib.Dec.{ltb}
+use borrow.Author.Tests.{ltb-true}
 use borrow.Author.Rules.{rules}
 use Rattle.base.specs.Tests.{pick}
 use Rattle.tokens.specs.Tokens.{is_word}
@@ -16,7 +19,7 @@ use Rattle.text.specs.Words.{event_word, part_word, send_word, group_word, loose
 use Rattle.text.specs.Grammar.{past_word, synchrony_at, error_at}
 use Rattle.text.specs.Written.{error_word}
 use Rattle.text.proofs.WordLaws.{local-is, global-is, partial-is, causal-is}
-use Rattle.script.specs.Steps.{Stands, error_size, PassesWord}
+use Rattle.script.specs.Steps.{Stands, error_size, known, PassesWord}
 
 -- ---- past a word
 
@@ -30,41 +33,41 @@ pub ruleset wording = (word-passed, rules)
 
 module _ (bs : List ℕ) where
   module _ (a : Bool) (loose : a ≡ is_word loose_word bs) where
-    pub synchrony-loose : a ≡ true → 0 ≡ synchrony_at bs
-    unfolding synchrony_at pick
+    pub synchrony-loose : a ≡ true → Some 0 ≡ known 2 (synchrony_at bs)
+    unfolding known synchrony_at pick
     synchrony-loose p = rw (sym loose ∙ p)
 
     module _ (n : a ≡ false) (b : Bool) (tight : b ≡ is_word tight_word bs) where
-      pub synchrony-tight : b ≡ true → 1 ≡ synchrony_at bs
-      unfolding synchrony_at pick
+      pub synchrony-tight : b ≡ true → Some 1 ≡ known 2 (synchrony_at bs)
+      unfolding known synchrony_at pick
       synchrony-tight p = rw (sym loose ∙ n, sym tight ∙ p)
 
-      pub synchrony-none : b ≡ false → 2 ≡ synchrony_at bs
-      unfolding synchrony_at pick
+      pub synchrony-none : b ≡ false → None ≡ known 2 (synchrony_at bs)
+      unfolding known synchrony_at pick
       synchrony-none p = rw (sym loose ∙ n, sym tight ∙ p)
 
   module _ (a : Bool) (local : a ≡ is_word local_word bs) where
-    pub error-local : a ≡ true → 0 ≡ error_at bs
-    unfolding error_at pick
+    pub error-local : a ≡ true → Some 0 ≡ known 4 (error_at bs)
+    unfolding known error_at pick
     error-local p = rw (sym local ∙ p)
 
     module _ (n : a ≡ false) (b : Bool) (global : b ≡ is_word global_word bs) where
-      pub error-global : b ≡ true → 1 ≡ error_at bs
-      unfolding error_at pick
+      pub error-global : b ≡ true → Some 1 ≡ known 4 (error_at bs)
+      unfolding known error_at pick
       error-global p = rw (sym local ∙ n, sym global ∙ p)
 
       module _ (o : b ≡ false) (c : Bool) (partial : c ≡ is_word partial_word bs) where
-        pub error-partial : c ≡ true → 2 ≡ error_at bs
-        unfolding error_at pick
+        pub error-partial : c ≡ true → Some 2 ≡ known 4 (error_at bs)
+        unfolding known error_at pick
         error-partial p = rw (sym local ∙ n, sym global ∙ o, sym partial ∙ p)
 
         module _ (q : c ≡ false) (d : Bool) (causal : d ≡ is_word causal_word bs) where
-          pub error-causal : d ≡ true → 3 ≡ error_at bs
-          unfolding error_at pick
+          pub error-causal : d ≡ true → Some 3 ≡ known 4 (error_at bs)
+          unfolding known error_at pick
           error-causal p = rw (sym local ∙ n, sym global ∙ o, sym partial ∙ q, sym causal ∙ p)
 
-          pub error-none : d ≡ false → 4 ≡ error_at bs
-          unfolding error_at pick
+          pub error-none : d ≡ false → None ≡ known 4 (error_at bs)
+          unfolding known error_at pick
           error-none p = rw (sym local ∙ n, sym global ∙ o, sym partial ∙ q, sym causal ∙ p)
 
 pub ruleset synchronies = (synchrony-loose, synchrony-tight, synchrony-none, rules)
@@ -90,6 +93,22 @@ module _ (v : ℕ) where
 
 pub ruleset sizes = (size-local, size-global, size-partial, size-causal, rules)
 
+-- ---- the number of a word that was looked for
+
+pub known-some : (none n w : ℕ) → known none n ≡ Some w → (w ≡ n) × (w < none)
+unfolding known pick
+known-some none n w = go (ltb n none) refl where
+  go : (b : Bool) → ltb n none ≡ b → pick b (Some n) None ≡ Some w → (w ≡ n) × (w < none)
+  go true e p = let z : n ≡ w = cc in (sym z, rw z at (ltb-true n none e))
+  go false e p = let z : ◌≡◌ {A = ℕ} 0 1 = cc in absurd (omega arith)
+
+pub known-none : (none n : ℕ) → known none n ≡ None → ltb n none ≡ false
+unfolding known pick
+known-none none n = go (ltb n none) refl where
+  go : (b : Bool) → ltb n none ≡ b → pick b (Some n) None ≡ None → ltb n none ≡ false
+  go true e p = let z : ◌≡◌ {A = ℕ} 0 1 = cc in absurd (omega arith)
+  go false e p = e
+
 -- ---- a word that was found stands there with all its letters
 
 module _ (t : List ℕ) (at : ℕ) (start : at ≤ length t) where
@@ -111,17 +130,17 @@ module _ (t : List ℕ) (at : ℕ) (start : at ≤ length t) where
     pub group-stands : s ≡ is_word group_word (drop at t) → Stands t at 5
     group-stands told = word_stands group_word (sym told ∙ there)
 
-  pub synchrony-stands : (w : ℕ) → w ≡ synchrony_at (drop at t) → w < 2 → Stands t at 5
+  synchrony-there : (w : ℕ) → w ≡ synchrony_at (drop at t) → w < 2 → Stands t at 5
   unfolding synchrony_at pick
-  synchrony-stands w told p = go (is_word loose_word (drop at t)) refl (is_word tight_word (drop at t)) refl told where
+  synchrony-there w told p = go (is_word loose_word (drop at t)) refl (is_word tight_word (drop at t)) refl told where
     go : (a : Bool) → is_word loose_word (drop at t) ≡ a → (b : Bool) → is_word tight_word (drop at t) ≡ b → w ≡ pick a 0 (pick b 1 2) → Stands t at 5
     go true e b f h = word_stands loose_word e
     go false e true f h = word_stands tight_word f
     go false e false f h = absurd (omega arith)
 
-  pub error-stands : (v size : ℕ) → v ≡ error_at (drop at t) → v < 4 → size ≡ error_size v → Stands t at size
+  error-there : (v size : ℕ) → v ≡ error_at (drop at t) → v < 4 → size ≡ error_size v → Stands t at size
   unfolding error_at error_size error_word pick
-  error-stands v size told p sized =
+  error-there v size told p sized =
       go (is_word local_word (drop at t)) refl (is_word global_word (drop at t)) refl (is_word partial_word (drop at t)) refl (is_word causal_word (drop at t)) refl told where
         go : (a : Bool) → is_word local_word (drop at t) ≡ a → (b : Bool) → is_word global_word (drop at t) ≡ b → (c : Bool) → is_word partial_word (drop at t) ≡ c
             → (d : Bool) → is_word causal_word (drop at t) ≡ d → v ≡ pick a 0 (pick b 1 (pick c 2 (pick d 3 4))) → Stands t at size
@@ -130,3 +149,18 @@ module _ (t : List ℕ) (at : ℕ) (start : at ≤ length t) where
         go false e false f true g d h z = let k : size ≡ 7 = rw z at sized in rw k (word_stands partial_word g)
         go false e false f false g true h z = let k : size ≡ 6 = rw z at sized in rw k (word_stands causal_word h)
         go false e false f false g false h z = absurd (omega arith)
+
+  module _ (v : Option ℕ) (w : ℕ) (is : v ≡ Some w) where
+    module _ (told : v ≡ known 2 (synchrony_at (drop at t))) where
+      pub synchrony-low : w ≤ 1
+      synchrony-low = omega (arith, (known-some 2 (synchrony_at (drop at t)) w (sym told ∙ is)).1)
+
+      pub synchrony-stands : Stands t at 5
+      synchrony-stands = let k = known-some 2 (synchrony_at (drop at t)) w (sym told ∙ is) in synchrony-there w k.0 k.1
+
+    module _ (told : v ≡ known 4 (error_at (drop at t))) where
+      pub error-low : w ≤ 3
+      error-low = omega (arith, (known-some 4 (error_at (drop at t)) w (sym told ∙ is)).1)
+
+      pub error-stands : (size : ℕ) → size ≡ error_size w → Stands t at size
+      error-stands size sized = let k = known-some 4 (error_at (drop at t)) w (sym told ∙ is) in error-there w size k.0 k.1 sized

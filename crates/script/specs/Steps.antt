@@ -1,5 +1,6 @@
 -- What is asked of the functions that read a line: their answers in the words of the grammar.
-use Rattle.std.specs.Prelude.{ℕ, ◌+◌, ◌<◌, ◌≤◌, ◌≡◌, true, List, length, drop, Result, Ok, Err}
+use Rattle.std.specs.Prelude.{ℕ, ◌+◌, ◌<◌, ◌≤◌, ◌≡◌, true, List, ltb, length, drop, Option, Some, None, Result, Ok, Err}
+use Rattle.base.specs.Tests.{pick}
 use Rattle.tokens.specs.Bytes.{is_letter}
 use Rattle.tokens.specs.Tokens.{Read, got, stop, behind, label, is_read, bytes_in}
 use Rattle.tokens.specs.Beats.{field}
@@ -18,6 +19,10 @@ pub record Stands (t : List ℕ) (at size : ℕ) : Type 0 where
 -- How many letters the error word of this number has.
 unfoldable pub error_size : ℕ → ℕ
 error_size v = length (error_word v)
+
+-- The number of a word that was looked for: none from the number of no word on.
+unfoldable pub known : (none n : ℕ) → Option ℕ
+known none n = pick (ltb n none) (Some n) None
 
 -- What is left behind a word, and the blanks behind it.
 pub record PassesWord (t : List ℕ) (at r : ℕ) : Type 0 where

@@ -18,7 +18,7 @@ fn may_end(stage: Stage) -> bool
 {
     match stage {
         Stage::Start => false,
-        Stage::Listing { next: _ } => true,
+        Stage::Listing { .. } => true,
         Stage::Timed => true,
         Stage::Playing { depth } => depth == 0,
     }

@@ -15,11 +15,6 @@ const OPENING: u8 = b'{';
 
 const CLOSING: u8 = b'}';
 
-// How many words there are of each kind: the number of a word that is none of them.
-const SYNCHRONIES: u64 = 2;
-
-const ERRORS: u64 = 4;
-
 // The message behind `send`.
 fn sent(text: &[u8], at: usize, delay: u64) -> Result<Step, usize>
     requires { (at ≤ length text.now) × (delay < field) }
@@ -58,10 +53,9 @@ fn erring(text: &[u8], at: usize, delay: u64, synchrony: u64) -> Result<Step, us
     requires { (at ≤ length text.now) × (delay < field) × (synchrony ≤ 1) }
     ensures { Lines text.now (erring delay synchrony (drop at text.now)) result }
 {
-    let error = error_at(text, at);
-    if ERRORS <= error {
+    let Some(error) = error_at(text, at) else {
         return opened(text, at, delay, synchrony, 0);
-    }
+    };
     let size = error_size(error);
     let brace = past_word(text, at, size);
     opened(text, brace, delay, synchrony, error)
@@ -72,10 +66,9 @@ fn grouped(text: &[u8], at: usize, delay: u64) -> Result<Step, usize>
     requires { (at ≤ length text.now) × (delay < field) }
     ensures { Lines text.now (grouped delay (drop at text.now)) result }
 {
-    let synchrony = synchrony_at(text, at);
-    if SYNCHRONIES <= synchrony {
+    let Some(synchrony) = synchrony_at(text, at) else {
         return erring(text, at, delay, 0);
-    }
+    };
     let word = past_word(text, at, 5);
     erring(text, word, delay, synchrony)
 }

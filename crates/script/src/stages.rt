@@ -14,7 +14,7 @@ fn further(stage: Stage) -> Stage
         Stage::Start => stage,
         Stage::Listing { next } => Stage::Listing { next: next + 1 },
         Stage::Timed => stage,
-        Stage::Playing { depth: _ } => stage,
+        Stage::Playing { .. } => stage,
     }
 }
 
@@ -24,7 +24,7 @@ fn deeper(stage: Stage) -> Stage
 {
     match stage {
         Stage::Start => stage,
-        Stage::Listing { next: _ } => stage,
+        Stage::Listing { .. } => stage,
         Stage::Timed => stage,
         Stage::Playing { depth } => Stage::Playing { depth: depth + 1 },
     }
@@ -35,7 +35,7 @@ fn shallower(stage: Stage) -> Stage
 {
     match stage {
         Stage::Start => stage,
-        Stage::Listing { next: _ } => stage,
+        Stage::Listing { .. } => stage,
         Stage::Timed => stage,
         Stage::Playing { depth } => {
             if depth < 1 {
@@ -54,18 +54,11 @@ pub fn after(found: Found, stage: Stage) -> Stage
 {
     match found {
         Found::Heading => Stage::Listing { next: 0 },
-        Found::Message { start: _, size: _ } => further(stage),
-        Found::Event { grains: _ } => Stage::Timed,
-        Found::Part { number: _ } => Stage::Playing { depth: 0 },
-        Found::Send {
-            delay: _,
-            number: _,
-        } => stage,
-        Found::Group {
-            delay: _,
-            synchrony: _,
-            error: _,
-        } => deeper(stage),
+        Found::Message { .. } => further(stage),
+        Found::Event { .. } => Stage::Timed,
+        Found::Part { .. } => Stage::Playing { depth: 0 },
+        Found::Send { .. } => stage,
+        Found::Group { .. } => deeper(stage),
         Found::Close => shallower(stage),
     }
 }

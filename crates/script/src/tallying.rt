@@ -18,37 +18,23 @@ fn count(found: Found, c: Counts) -> Counts
 {
     match found {
         Found::Heading => c,
-        Found::Message { start: _, size } => Counts {
-            events: c.events,
-            items: c.items,
+        Found::Message { size, .. } => Counts {
             messages: c.messages + 1,
             text: c.text + size,
+            ..c
         },
-        Found::Event { grains: _ } => Counts {
+        Found::Event { .. } => Counts {
             events: c.events + 1,
-            items: c.items,
-            messages: c.messages,
-            text: c.text,
+            ..c
         },
-        Found::Part { number: _ } => c,
-        Found::Send {
-            delay: _,
-            number: _,
-        } => Counts {
-            events: c.events,
+        Found::Part { .. } => c,
+        Found::Send { .. } => Counts {
             items: c.items + 1,
-            messages: c.messages,
-            text: c.text,
+            ..c
         },
-        Found::Group {
-            delay: _,
-            synchrony: _,
-            error: _,
-        } => Counts {
-            events: c.events,
+        Found::Group { .. } => Counts {
             items: c.items + 1,
-            messages: c.messages,
-            text: c.text,
+            ..c
         },
         Found::Close => c,
     }

@@ -1,7 +1,7 @@
 // The words of a group, and what stands behind a word.
 ghost use Rattle.std.specs.Prelude.{◌≡◌, ◌≤◌, length, drop};
 ghost use Rattle.text.specs.Grammar.{synchrony_at, error_at};
-ghost use Rattle.script.specs.Steps.{Stands, PassesWord, error_size};
+ghost use Rattle.script.specs.Steps.{Stands, PassesWord, error_size, known};
 
 use tokens::{is_word, past_blanks};
 
@@ -13,38 +13,38 @@ pub fn past_word(text: &[u8], at: usize, size: usize) -> usize
     past_blanks(text, at + size)
 }
 
-// "synchrony (0 loose, 1 tight)"; 2 where neither stands.
-pub fn synchrony_at(text: &[u8], at: usize) -> u64
+// "synchrony (0 loose, 1 tight)"; none where neither stands.
+pub fn synchrony_at(text: &[u8], at: usize) -> Option<u64>
     requires { at ≤ length text.now }
-    ensures { result ≡ synchrony_at (drop at text.now) }
+    ensures { result ≡ known 2 (synchrony_at (drop at text.now)) }
 {
     if is_word(b"loose", text, at) {
-        return 0;
+        return Some(0);
     }
     if is_word(b"tight", text, at) {
-        return 1;
+        return Some(1);
     }
-    2
+    None
 }
 
-// "error word (0 local, 1 global, 2 partial, 3 causal)"; 4 where none stands.
-pub fn error_at(text: &[u8], at: usize) -> u64
+// "error word (0 local, 1 global, 2 partial, 3 causal)"; none where none stands.
+pub fn error_at(text: &[u8], at: usize) -> Option<u64>
     requires { at ≤ length text.now }
-    ensures { result ≡ error_at (drop at text.now) }
+    ensures { result ≡ known 4 (error_at (drop at text.now)) }
 {
     if is_word(b"local", text, at) {
-        return 0;
+        return Some(0);
     }
     if is_word(b"global", text, at) {
-        return 1;
+        return Some(1);
     }
     if is_word(b"partial", text, at) {
-        return 2;
+        return Some(2);
     }
     if is_word(b"causal", text, at) {
-        return 3;
+        return Some(3);
     }
-    4
+    None
 }
 
 // How many letters an error word has.
