@@ -1,5 +1,7 @@
 -- Which word stands, as it is and in small letters, in the code's own terms.
 -- Assumes nothing.
+use Rattle.std.specs.Char.{LowercasesTo}
+use mathlib.Core.Logic.{inl, inr}
 use mathlib.Core.Path.{◌≡◌, refl, sym, ap, ◌∙◌}
 use mathlib.Core.Bool.{Bool, true, false}
 use mathlib.Core.List.{List, [], ◌∷◌, ◌++◌}
@@ -51,6 +53,11 @@ module _ (b : ℕ) where
   unfolding lowered pick
   lowered-over p = rw (between-over 65 90 b p)
 
+pub lowers-told : (b r : ℕ) → LowercasesTo b r → r ≡ lowered b
+lowers-told b r (inl p) = p.1 ∙ lowered-capital b (omega (arith, p.0)) (omega (arith, p.0))
+lowers-told b r (inr (inl under, e)) = e ∙ lowered-under b under
+lowers-told b r (inr (inr over, e)) = e ∙ lowered-over b over
+
 all-lowered : (xs : List ℕ) (b : ℕ) → all_lowered (xs ++ (b ∷ [])) ≡ all_lowered xs ++ (lowered b ∷ [])
 unfolding all_lowered
 all-lowered [] b = refl
@@ -88,7 +95,7 @@ module _ (o t : List ℕ) (at : ℕ) (m : List ℕ) (i : ℕ) (inv : Lowers o t 
       let e : word_room ≡ i = omega (arith, inv.few) in
       rw e inv.laid
 
-pub ruleset lowering = (lowers-start, lowers-step, lowers-short, lowers-done, rules)
+pub ruleset lowering = (lowers-told, lowers-start, lowers-step, lowers-short, lowers-done, rules)
 
 -- ---- a word with a capital
 

@@ -1,7 +1,7 @@
 // The words of the text form, as they are and in small letters.
 ghost use Rattle.std.specs.Prelude.{◌≡◌, ◌≤◌, length, take, drop};
 ghost use Rattle.ascii.specs.Laying.{Laid};
-ghost use Rattle.hints.specs.Hints.{is_one_of, group_words, all_words, lowered, all_lowered, word_room, is_capital};
+ghost use Rattle.hints.specs.Hints.{is_one_of, group_words, all_words, all_lowered, word_room, is_capital};
 
 use tokens::is_word;
 
@@ -53,16 +53,6 @@ fn is_any_word(text: &[u8], at: usize) -> bool
     is_group_word(text, at)
 }
 
-// A capital as a small letter, and every other byte as it is.
-fn lowered(b: u8) -> u8
-    ensures { result ≡ lowered b }
-{
-    match b {
-        b'A'..=b'Z' => b + 32,
-        _ => b,
-    }
-}
-
 // Puts the bytes from `at` on, as many as show a word, in small letters to the front of `out`. Answers how many they are.
 fn put_lowered(out: &mut [u8], text: &[u8], at: usize) -> usize
     requires { (at ≤ length text.now) × (word_room ≤ length out.old) }
@@ -72,7 +62,7 @@ fn put_lowered(out: &mut [u8], text: &[u8], at: usize) -> usize
         if text.len() - at <= i {
             return i;
         }
-        out[i] = lowered(text[at + i]);
+        out[i] = text[at + i].to_ascii_lowercase();
     }
     WORD_ROOM
 }
