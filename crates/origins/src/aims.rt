@@ -17,7 +17,7 @@ pub enum Table {
     Text,
 }
 
-// What is looked for: nothing, the text's end, the end of the message list, or the first line with which there are more than n of a kind.
+// What is looked for, of which nothing is a case like the others: each function here has an answer for it. It is nothing, the text's end, the end of the message list, or the first line with which there are more than n of a kind.
 #[derive(Clone, Copy)]
 pub enum Aim {
     Nothing,

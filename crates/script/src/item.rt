@@ -15,6 +15,8 @@ const OPENING: u8 = b'{';
 
 const CLOSING: u8 = b'}';
 
+// A delay is a u64 below its field, as each token's value is one: a number of the message list may have ten digits.
+
 // The message behind `send`.
 fn sent(text: &[u8], at: usize, delay: u64) -> Result<Step, usize>
     requires { (at ≤ length text.now) × (delay < field) }

@@ -7,7 +7,7 @@ use Prim.Native.Nat.{ℕ, ◌≤◌}
 use native.Mathlib.Omega.{arith}
 use lib.ListN.{length, drop, length-drop}
 use Rattle.tokens.specs.declared.Token.{Token}
-use Rattle.tokens.specs.Tokens.{Read, got, stop}
+use Rattle.tokens.specs.Tokens.{Read}
 use Rattle.tokens.specs.Asked.{Passes, as_read, met_at, Reads, Sizes}
 
 -- One place within a text has these bytes left.

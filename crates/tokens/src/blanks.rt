@@ -51,6 +51,7 @@ pub fn past_blanks(text: &[u8], at: usize) -> usize
     ensures { Passes text.now at result }
 {
     let mut i = past_spaces(text, at);
+    // A while loop, since how far a step goes is what the calls answer.
     while i < text.len() {
         let b = text[i];
         if is_blank(b) {

@@ -1,4 +1,6 @@
 // The tokens of the text form, read from lent bytes: blanks, words, numbers, beats and labels, and the line and column of a byte.
+// A reader takes the whole text and the byte to begin at: what can't be is told by its place in the whole text, so that a slice of what is left, or a struct of both,
+// would be taken apart again for each answer.
 #![tactic(auto)]
 
 pub use blanks::past_blanks;
