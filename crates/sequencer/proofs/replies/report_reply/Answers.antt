@@ -20,15 +20,6 @@ refused-row : (a : Result Figures Refusal) (x : Refusal) (r : Reply) → a ≡ E
 unfolding report_reply
 refused-row a x r e q = rw (e, q)
 
-pub enum_known-a : goal.enum_known-a
-enum_known-a c = search rules
-
-pub enum_known-a-in-Err-1 : goal.enum_known-a-in-Err-1
-enum_known-a-in-Err-1 c = search rules
-
-pub refusal_row-r-requires : goal.refusal_row-r-requires
-refusal_row-r-requires c = search rules
-
 pub returns-in-Ok : goal.returns-in-Ok
 returns-in-Ok c = search (given-row, rules)
 

@@ -20,15 +20,6 @@ refused-row : (a : Result ℕ Refusal) (x : Refusal) (r : Reply) → a ≡ Err x
 unfolding sending_reply
 refused-row a x r e q = rw (e, q)
 
-pub enum_known-s : goal.enum_known-s
-enum_known-s c = search rules
-
-pub enum_known-s-in-Err-1 : goal.enum_known-s-in-Err-1
-enum_known-s-in-Err-1 c = search rules
-
-pub refusal_row-r-requires : goal.refusal_row-r-requires
-refusal_row-r-requires c = search rules
-
 pub returns-in-Ok : goal.returns-in-Ok
 returns-in-Ok c = search (sent-row, rules)
 

@@ -27,24 +27,9 @@ pub returns-then-mem-lt-MEMORY_SIZE : goal.returns-then-mem-lt-MEMORY_SIZE
 unfolding report_check
 returns-then-mem-lt-MEMORY_SIZE c = search steps
 
-pub is_session-requires : goal.is_session-requires
-is_session-requires c = search rules
-
 pub returns-then-not-is_session : goal.returns-then-not-is_session
 unfolding report_check
 returns-then-not-is_session c = search steps
-
-pub bounds-mem-2336 : goal.bounds-mem-2336
-bounds-mem-2336 c = search rules
-
-pub bounds-mem-2337 : goal.bounds-mem-2337
-bounds-mem-2337 c = search rules
-
-pub bounds-mem-2338 : goal.bounds-mem-2338
-bounds-mem-2338 c = search rules
-
-pub bounds-mem-2339 : goal.bounds-mem-2339
-bounds-mem-2339 c = search rules
 
 pub returns : goal.returns
 unfolding report_check
