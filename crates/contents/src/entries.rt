@@ -5,7 +5,7 @@ ghost use Rattle.contents.specs.Entries.{entry_at};
 use crate::Counts;
 use crate::limits::{CONTENTS_SIZE, EVENT_SIZE, ITEM_SIZE, MESSAGE_SIZE};
 
-// A field of the table of contents, an event from 1, an item by its page place, or a message from 0.
+// A field of the table of contents, an event from 1, an item by its page place, or a message from 0. No Option beside it: whoever tells a place tells all five in one `match`.
 #[derive(Clone, Copy)]
 pub enum Entry {
     Nowhere,

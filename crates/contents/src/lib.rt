@@ -72,7 +72,7 @@ pub struct Reply {
     pub place: usize,
 }
 
-// The table of contents: where each body starts, and how many it has.
+// The table of contents: where each body starts, and how many it has. Two types, and a reader for each: with one for both, a count could stand where an offset is asked for.
 #[derive(Clone, Copy)]
 pub struct Offsets {
     pub events: usize,

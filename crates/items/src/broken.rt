@@ -10,7 +10,7 @@ use crate::{
 use contents::{Counts, ItemRule};
 use page::Item;
 
-// The first rule that a wrong item breaks, in the order of specs/Items.
+// The first rule that a wrong item breaks, in the order of specs/Items. Beside `item_right`, which promises a yes or no: of an accepted file no item is asked which rule it breaks.
 pub fn rule_broken(i: Item, c: Counts, h: Setting, left: usize, actions: usize) -> ItemRule
     ensures { result ≡ broken_by (item_right i c h left actions) }
 {

@@ -96,6 +96,7 @@ fn walk_items(
     let mut part = h.part;
     let mut n = actions;
     let depth = h.depth;
+    // No `for`: how far a step goes is what the item says.
     while 0 < left {
         let around = Setting { depth, event, part };
         let s = judge(file, c, i, around, left - 1, n)?;
