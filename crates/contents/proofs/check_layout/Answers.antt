@@ -13,12 +13,3 @@ use Rattle.contents.proofs.check_layout.Goals as goal
 
 offsets-told : (o p : Offsets) (c : Counts) (size : ℕ) (v : Result (Unit {0}) Fault) → o ≡ p → v ≡ verdict_of (offsets_right o c size) → v ≡ verdict_of (offsets_right p c size)
 offsets-told o p c size v e q = rw e at q
-
-pub read_offsets-requires : goal.read_offsets-requires
-read_offsets-requires c = search rules
-
-pub check_offsets-requires : goal.check_offsets-requires
-check_offsets-requires c = search rules
-
-pub returns : goal.returns
-returns c = search (offsets-told, rules)

@@ -9,29 +9,17 @@ pub returns-then-o-ne-CONTENTS_SIZE : goal.returns-then-o-ne-CONTENTS_SIZE
 unfolding offsets_right
 returns-then-o-ne-CONTENTS_SIZE c = search places depth 9
 
-pub items_at-requires : goal.items_at-requires
-items_at-requires c = search rules
-
 pub returns-then-o-items_at : goal.returns-then-o-items_at
 unfolding offsets_right
 returns-then-o-items_at c = search places depth 9
-
-pub messages_at-requires : goal.messages_at-requires
-messages_at-requires c = search rules
 
 pub returns-then-o-messages_at : goal.returns-then-o-messages_at
 unfolding offsets_right
 returns-then-o-messages_at c = search places depth 9
 
-pub text_at-requires : goal.text_at-requires
-text_at-requires c = search rules
-
 pub returns-then-o-text_at : goal.returns-then-o-text_at
 unfolding offsets_right
 returns-then-o-text_at c = search places depth 9
-
-pub size_of-requires : goal.size_of-requires
-size_of-requires c = search rules
 
 pub returns-then-size-size_of : goal.returns-then-size-size_of
 unfolding offsets_right

@@ -12,17 +12,5 @@ four-read : (f : List ℕ) (a b c d : ℕ) → a ≡ u32_at f 4 → b ≡ u32_at
 unfolding counts_of
 four-read f a b c d p q r s = rw (p, q, r, s)
 
-pub read32-requires : goal.read32-requires
-read32-requires c = search rules
-
-pub read32-requires-2 : goal.read32-requires-2
-read32-requires-2 c = search rules
-
-pub read32-requires-3 : goal.read32-requires-3
-read32-requires-3 c = search rules
-
-pub read32-requires-4 : goal.read32-requires-4
-read32-requires-4 c = search rules
-
 pub returns : goal.returns
 returns c = search (four-read, rules)

@@ -17,9 +17,6 @@ pub returns-then-c-i : goal.returns-then-c-i
 unfolding event_right
 returns-then-c-i c = search tests depth 9
 
-pub in_order-requires : goal.in_order-requires
-in_order-requires c = search rules
-
 pub returns : goal.returns
 unfolding event_right
 returns c = search tests depth 9

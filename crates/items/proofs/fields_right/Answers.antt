@@ -5,36 +5,21 @@ use Rattle.base.proofs.TestLaws.{calls}
 use Rattle.items.specs.Inner.{fields_right}
 use Rattle.items.proofs.fields_right.Goals as goal
 
-pub kind_right-requires : goal.kind_right-requires
-kind_right-requires c = search rules
-
 pub returns-then-not-kind_right : goal.returns-then-not-kind_right
 unfolding fields_right
 returns-then-not-kind_right c = search calls depth 9
-
-pub synchrony_right-requires : goal.synchrony_right-requires
-synchrony_right-requires c = search rules
 
 pub returns-then-not-synchrony_right : goal.returns-then-not-synchrony_right
 unfolding fields_right
 returns-then-not-synchrony_right c = search calls depth 9
 
-pub error_right-requires : goal.error_right-requires
-error_right-requires c = search rules
-
 pub returns-then-not-error_right : goal.returns-then-not-error_right
 unfolding fields_right
 returns-then-not-error_right c = search calls depth 9
 
-pub part_right-requires : goal.part_right-requires
-part_right-requires c = search rules
-
 pub returns-then-not-part_right : goal.returns-then-not-part_right
 unfolding fields_right
 returns-then-not-part_right c = search calls depth 9
-
-pub delay_right-requires : goal.delay_right-requires
-delay_right-requires c = search rules
 
 pub returns : goal.returns
 unfolding fields_right

@@ -14,44 +14,5 @@ fields_read : (f : List â„•) (at kind synchrony error part delay event last : â„
 unfolding item_at
 fields_read f at kind synchrony error part delay event last k s e p d v l = rw (k, s, e, p, d, v, l)
 
-pub overflow_add-at : goal.overflow_add-at
-overflow_add-at c = search rules
-
-pub read32-requires : goal.read32-requires
-read32-requires c = search rules
-
-pub byte-requires : goal.byte-requires
-byte-requires c = search rules
-
-pub overflow_add-at-2 : goal.overflow_add-at-2
-overflow_add-at-2 c = search rules
-
-pub byte-requires-2 : goal.byte-requires-2
-byte-requires-2 c = search rules
-
-pub overflow_add-at-3 : goal.overflow_add-at-3
-overflow_add-at-3 c = search rules
-
-pub byte-requires-3 : goal.byte-requires-3
-byte-requires-3 c = search rules
-
-pub overflow_add-at-4 : goal.overflow_add-at-4
-overflow_add-at-4 c = search rules
-
-pub byte-requires-4 : goal.byte-requires-4
-byte-requires-4 c = search rules
-
-pub overflow_add-at-5 : goal.overflow_add-at-5
-overflow_add-at-5 c = search rules
-
-pub read16-requires : goal.read16-requires
-read16-requires c = search rules
-
-pub overflow_add-at-6 : goal.overflow_add-at-6
-overflow_add-at-6 c = search rules
-
-pub read16-requires-2 : goal.read16-requires-2
-read16-requires-2 c = search rules
-
 pub returns : goal.returns
 returns c = search (fields_read, rules)

@@ -5,14 +5,8 @@ use Rattle.base.proofs.TestLaws.{calls}
 use Rattle.items.proofs.BrokenRules.{right-halves}
 use Rattle.items.proofs.item_right.Goals as goal
 
-pub fields_right-requires : goal.fields_right-requires
-fields_right-requires c = search rules
-
 pub returns-then-not-fields_right : goal.returns-then-not-fields_right
 returns-then-not-fields_right c = rw right-halves (search calls depth 9)
-
-pub standing_right-requires : goal.standing_right-requires
-standing_right-requires c = search rules
 
 pub returns : goal.returns
 returns c = rw right-halves (search calls depth 9)

@@ -5,29 +5,17 @@ use Rattle.base.proofs.TestLaws.{calls}
 use Rattle.items.specs.Inner.{standing_right}
 use Rattle.items.proofs.standing_right.Goals as goal
 
-pub event_right-requires : goal.event_right-requires
-event_right-requires c = search rules
-
 pub returns-then-not-event_right : goal.returns-then-not-event_right
 unfolding standing_right
 returns-then-not-event_right c = search calls depth 9
-
-pub nesting_right-requires : goal.nesting_right-requires
-nesting_right-requires c = search rules
 
 pub returns-then-not-nesting_right : goal.returns-then-not-nesting_right
 unfolding standing_right
 returns-then-not-nesting_right c = search calls depth 9
 
-pub number_right-requires : goal.number_right-requires
-number_right-requires c = search rules
-
 pub returns-then-not-number_right : goal.returns-then-not-number_right
 unfolding standing_right
 returns-then-not-number_right c = search calls depth 9
-
-pub actions_right-requires : goal.actions_right-requires
-actions_right-requires c = search rules
 
 pub returns : goal.returns
 unfolding standing_right

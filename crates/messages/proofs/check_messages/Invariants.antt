@@ -10,5 +10,5 @@ use Rattle.messages.proofs.check_messages.Given as goal
 abbrev pub invariant-loop-k : goal.invariant-loop-k
 invariant-loop-k l = record {
   within : l.from ≤ l.c.text;
-  same : messages_right l.file l.c (l.first + message_size * l.k) (l.c.messages - l.k) l.from ≡ messages_right l.file l.c (messages_at l.c) l.c.messages 0
+  same : messages_right l.file l.c (l.first + message_size * l.k) (l.c.messages - l.k) l.from ≡ messages_right l.file l.c (messages_at l.c) l.c.messages 0;
 }

@@ -6,26 +6,11 @@ use Rattle.contents.proofs.entries.entry_at.Goals as goal
 pub returns-then-at-lt-CONTENTS_SIZE : goal.returns-then-at-lt-CONTENTS_SIZE
 returns-then-at-lt-CONTENTS_SIZE c = search entering
 
-pub overflow_add-result : goal.overflow_add-result
-overflow_add-result c = search entering
-
 pub returns-then-past-c : goal.returns-then-past-c
 returns-then-past-c c = search entering
 
-pub overflow_mul-past : goal.overflow_mul-past
-overflow_mul-past c = search entering
-
-pub overflow_sub-past-2 : goal.overflow_sub-past-2
-overflow_sub-past-2 c = search entering
-
 pub returns-then-past-c-2 : goal.returns-then-past-c-2
 returns-then-past-c-2 c = search entering
-
-pub overflow_mul-past-2 : goal.overflow_mul-past-2
-overflow_mul-past-2 c = search entering
-
-pub overflow_sub-past-3 : goal.overflow_sub-past-3
-overflow_sub-past-3 c = search entering
 
 pub returns-then-past-c-3 : goal.returns-then-past-c-3
 returns-then-past-c-3 c = search entering

@@ -20,63 +20,6 @@ item-case : (x : Fault) (rule : ItemRule) (at : ℕ) (told : RuleRow) (r : Reply
 unfolding fault_row
 item-case x rule at told r e p q = rw (e, ← p) q
 
-pub enum_told-1 : goal.enum_told-1
-enum_told-1 c = search rules
-
-pub row-requires : goal.row-requires
-row-requires c = search rules
-
-pub enum_known-x : goal.enum_known-x
-enum_known-x c = search rules
-
-pub row-requires-in-BadCount : goal.row-requires-in-BadCount
-row-requires-in-BadCount c = search rules
-
-pub enum_known-x-in-BadOffset-1 : goal.enum_known-x-in-BadOffset-1
-enum_known-x-in-BadOffset-1 c = search rules
-
-pub row-requires-in-BadOffset : goal.row-requires-in-BadOffset
-row-requires-in-BadOffset c = search rules
-
-pub enum_told-in-BadLength : goal.enum_told-in-BadLength
-enum_told-in-BadLength c = search rules
-
-pub row-requires-in-BadLength : goal.row-requires-in-BadLength
-row-requires-in-BadLength c = search rules
-
-pub enum_known-x-in-BadEvent-1 : goal.enum_known-x-in-BadEvent-1
-enum_known-x-in-BadEvent-1 c = search rules
-
-pub row-requires-in-BadEvent : goal.row-requires-in-BadEvent
-row-requires-in-BadEvent c = search rules
-
-pub enum_known-x-in-BadItem-1 : goal.enum_known-x-in-BadItem-1
-enum_known-x-in-BadItem-1 c = search rules
-
-pub rule_row-requires : goal.rule_row-requires
-rule_row-requires c = search rules
-
-pub row-requires-in-BadItem : goal.row-requires-in-BadItem
-row-requires-in-BadItem c = search rules
-
-pub enum_known-x-in-BadMessage-1 : goal.enum_known-x-in-BadMessage-1
-enum_known-x-in-BadMessage-1 c = search rules
-
-pub row-requires-in-BadMessage : goal.row-requires-in-BadMessage
-row-requires-in-BadMessage c = search rules
-
-pub enum_told-in-TextLeft : goal.enum_told-in-TextLeft
-enum_told-in-TextLeft c = search rules
-
-pub row-requires-in-TextLeft : goal.row-requires-in-TextLeft
-row-requires-in-TextLeft c = search rules
-
-pub enum_told-in-NoMessage : goal.enum_told-in-NoMessage
-enum_told-in-NoMessage c = search rules
-
-pub row-requires-in-NoMessage : goal.row-requires-in-NoMessage
-row-requires-in-NoMessage c = search rules
-
 pub returns-in-FileShort : goal.returns-in-FileShort
 unfolding fault_row
 returns-in-FileShort c = search case-of

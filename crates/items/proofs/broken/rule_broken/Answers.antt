@@ -5,57 +5,33 @@ use Rattle.items.specs.Items.{item_right}
 use Rattle.items.proofs.BrokenRules.{broken}
 use Rattle.items.proofs.broken.rule_broken.Goals as goal
 
-pub kind_right-requires : goal.kind_right-requires
-kind_right-requires c = search rules
-
 pub returns-then-not-kind_right : goal.returns-then-not-kind_right
 unfolding item_right
 returns-then-not-kind_right c = search broken depth 12
-
-pub synchrony_right-requires : goal.synchrony_right-requires
-synchrony_right-requires c = search rules
 
 pub returns-then-not-synchrony_right : goal.returns-then-not-synchrony_right
 unfolding item_right
 returns-then-not-synchrony_right c = search broken depth 12
 
-pub error_right-requires : goal.error_right-requires
-error_right-requires c = search rules
-
 pub returns-then-not-error_right : goal.returns-then-not-error_right
 unfolding item_right
 returns-then-not-error_right c = search broken depth 12
-
-pub part_right-requires : goal.part_right-requires
-part_right-requires c = search rules
 
 pub returns-then-not-part_right : goal.returns-then-not-part_right
 unfolding item_right
 returns-then-not-part_right c = search broken depth 12
 
-pub delay_right-requires : goal.delay_right-requires
-delay_right-requires c = search rules
-
 pub returns-then-not-delay_right : goal.returns-then-not-delay_right
 unfolding item_right
 returns-then-not-delay_right c = search broken depth 12
-
-pub event_right-requires : goal.event_right-requires
-event_right-requires c = search rules
 
 pub returns-then-not-event_right : goal.returns-then-not-event_right
 unfolding item_right
 returns-then-not-event_right c = search broken depth 12
 
-pub nesting_right-requires : goal.nesting_right-requires
-nesting_right-requires c = search rules
-
 pub returns-then-not-nesting_right : goal.returns-then-not-nesting_right
 unfolding item_right
 returns-then-not-nesting_right c = search broken depth 12
-
-pub number_right-requires : goal.number_right-requires
-number_right-requires c = search rules
 
 pub returns-then-not-number_right : goal.returns-then-not-number_right
 unfolding item_right

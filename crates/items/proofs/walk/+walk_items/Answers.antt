@@ -5,9 +5,6 @@ use Rattle.items.proofs.WalkLaws.{walked-small}
 use Rattle.items.proofs.WalkSteps.{walks, walk_none, walk_step}
 use Rattle.items.proofs.walk.+walk_items.Goals as goal
 
-pub loop-left-init : goal.loop-left-init
-loop-left-init t c = search walks
-
 pub returns-in_err-s : goal.returns-in_err-s
 returns-in_err-s t c = search walks
 

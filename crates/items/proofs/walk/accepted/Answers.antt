@@ -3,20 +3,11 @@
 use Rattle.items.proofs.WalkSteps.{judges}
 use Rattle.items.proofs.walk.accepted.Goals as goal
 
-pub overflow_add-actions : goal.overflow_add-actions
-overflow_add-actions c = search judges
-
-pub going_on-requires : goal.going_on-requires
-going_on-requires c = search judges
-
 pub returns-then-i-eq0 : goal.returns-then-i-eq0
 returns-then-i-eq0 c = search judges
 
 pub overflow_sub-left : goal.overflow_sub-left
 overflow_sub-left c = search judges
-
-pub going_on-requires-2 : goal.going_on-requires-2
-going_on-requires-2 c = search judges
 
 pub returns : goal.returns
 returns c = search judges

@@ -2,9 +2,6 @@ use native.Mathlib.Omega.{arith}
 use Rattle.score.proofs.EventSteps.{events, events-out, events-step}
 use Rattle.score.proofs.events.check_events.Goals as goal
 
-pub loop-k-init : goal.loop-k-init
-loop-k-init c = search events
-
 pub loop-k-preserved : goal.loop-k-preserved
 loop-k-preserved c = events-step _ _ _ _ _ (omega arith) c.read32-d.ensures.0 _ _ c.if-d-lt1.false c.if-d-gt-LONGEST.false (omega arith) (omega arith) c.loop-k.invariant
 

@@ -11,6 +11,3 @@ returns-then-c-n c = search spans
 
 pub read_span-requires : goal.read_span-requires
 read_span-requires c = search spans
-
-pub returns : goal.returns
-returns c = search spans

@@ -8,6 +8,3 @@ returns-then-is_err c = search spans
 
 pub accepted_span-requires : goal.accepted_span-requires
 accepted_span-requires c = search spans
-
-pub returns : goal.returns
-returns c = search spans
