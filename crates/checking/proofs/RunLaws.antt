@@ -6,8 +6,9 @@ use mathlib.Core.List.{List, [], ◌∷◌, ◌++◌}
 use Prim.Native.Nat.{ℕ, zero, suc, ◌+◌, ◌<◌, ◌≤◌}
 use native.Mathlib.Omega.{arith}
 use lib.Dec.{ltb}
-use borrow.Author.Tests.{lt-ltb, le-ltb}
+use borrow.Author.Tests.{lt-ltb, le-ltb, ltb-true, ltb-false}
 use borrow.Author.Rules.{rules}
+use Rattle.std.specs.Prelude.{min}
 use Rattle.base.specs.Tests.{pick, every}
 use Rattle.ascii.specs.Words.{newline}
 use Rattle.ascii.specs.Decimals.{decimal}
@@ -65,15 +66,12 @@ pub ruleset counting = (lay-count, rules)
 
 -- ---- one file more
 
-pub more : (n : ℕ) → n < most_files → n + 1 ≡ one_more n
+pub capped : (n k : ℕ) → n ≤ most_files → k ≡ min (n + 1) most_files → k ≡ one_more n
 unfolding one_more pick
-more n p = rw (lt-ltb n most_files p)
-
-pub no_more : (n : ℕ) → most_files ≤ n → n ≡ one_more n
-unfolding one_more pick
-no_more n p = rw (le-ltb n most_files p)
-
-pub ruleset adding = (more, no_more, rules)
+capped n k p e = go (ltb n most_files) refl where
+  go : (t : Bool) → ltb n most_files ≡ t → k ≡ one_more n
+  go true q = let l = ltb-true n most_files q in rw q (omega arith)
+  go false q = let l = ltb-false n most_files q in rw q (omega arith)
 
 module _ (t : Tally) (c : Came) (k : ℕ) where
   pub one-accepted : c ≡ came.Accepted → k ≡ one_more t.accepted → record { accepted = k; refused = t.refused; unread = t.unread } ≡ tallied t c
@@ -88,7 +86,7 @@ module _ (t : Tally) (c : Came) (k : ℕ) where
   unfolding tallied
   one-unread e p = rw (e, p)
 
-pub ruleset tallies = (one-accepted, one-refused, one-unread, rules)
+pub ruleset tallies = (one-accepted, one-refused, one-unread, capped, rules)
 
 -- ---- whether the sum is told
 
@@ -110,11 +108,11 @@ pub ruleset telling = (not-told, told-if, rules)
 
 -- ---- the line
 
-module _ {o m₁ m₂ m₃ n : List ℕ} {at a b c r k : ℕ} (t : Tally) where
-  pub lay-tally : k ≡ files t → Laid o at (counted k " files: ") m₁ a → Laid m₁ a (counted t.accepted " accepted, ") m₂ b → Laid m₂ b (counted t.refused " refused, ") m₃ c
-      → Laid m₃ c (counted t.unread " can't be read") n r → Laid o at (tally_told t) n r
+module _ {o m₁ m₂ m₃ n : List ℕ} {at a b c r k x y z : ℕ} (t : Tally) where
+  pub lay-tally : k ≡ files t → x ≡ t.accepted → y ≡ t.refused → z ≡ t.unread → Laid o at (counted k " files: ") m₁ a → Laid m₁ a (counted x " accepted, ") m₂ b → Laid m₂ b (counted y " refused, ") m₃ c
+      → Laid m₃ c (counted z " can't be read") n r → Laid o at (tally_told t) n r
   unfolding tally_told
-  lay-tally e p q s u = rw (← e) (laid-join o m₁ n _ _ at a r p (laid-join m₁ m₂ n _ _ a b r q (laid-join m₂ m₃ n _ _ b c r s u)))
+  lay-tally e f g h p q s u = rw (← e, ← f, ← g, ← h) (laid-join o m₁ n _ _ at a r p (laid-join m₁ m₂ n _ _ a b r q (laid-join m₂ m₃ n _ _ b c r s u)))
 
 module _ (o m₁ m₂ n : List ℕ) (a b r : ℕ) (t : Tally) where
   pub lay-line : Laid o 0 (bytes_of "bin/poolmirror: ") m₁ a → Laid m₁ a (tally_told t) m₂ b → Laid m₂ b (newline ∷ []) n r → Laid o 0 (tally_line t) n r

@@ -13,7 +13,7 @@ use refusals::refusal_line;
 use score::{check_file, event_count, item_count, message_count};
 use session::Refusal;
 
-// How long a file's line is, and whether the file was accepted.
+// How long a file's line is, and whether the file was accepted. No Result: either way there is a line.
 #[derive(Clone, Copy)]
 pub struct Checked {
     pub count: usize,
@@ -52,8 +52,7 @@ pub fn check_line(out: &mut [u8], name: &[u8], file: &[u8]) -> Checked
     requires { check_room + length name.now ≤ length out.old }
     ensures { CheckTold out.old name.now file.now out.new result }
 {
-    let v = check_file(file);
-    match v {
+    match check_file(file) {
         Ok(()) => Checked {
             count: accepted_line(out, name, file),
             accepted: true,

@@ -25,16 +25,13 @@ fn put_part(out: &mut [u8], at: usize, part: usize, mark: u8) -> usize
 }
 
 // All that have a mark.
-fn put_marked(out: &mut [u8], at: usize, marks: &[u8; 16]) -> usize
+fn put_marked(out: &mut [u8], at: usize, marks: &[u8; PARTS]) -> usize
     requires { at + parts_room ≤ length out.old }
     ensures { Laid out.old at (marks_told marks.now part_count) out.new result × (result ≤ at + part_room * part_count) }
 {
     let mut next = at;
-    let mut k = 0;
-    while k < PARTS {
-        let m = marks[k];
+    for (k, &m) in marks.iter().enumerate() {
         next = put_part(out, next, k, m);
-        k += 1;
     }
     next
 }
@@ -44,7 +41,7 @@ pub fn put_parts(out: &mut [u8], at: usize, file: &[u8]) -> usize
     requires { Accepted file.now × (at + parts_room ≤ length out.old) }
     ensures { Laid out.old at (parts_told (parts_in (decode file.now).items)) out.new result × (result ≤ at + part_room * part_count) }
 {
-    let mut marks = [0u8; 16];
+    let mut marks = [0u8; PARTS];
     mark_parts(file, &mut marks);
     let next = put_marked(out, at, &marks);
     if next == at {

@@ -2,12 +2,10 @@
 ghost use Rattle.std.specs.Prelude.{◌≡◌, ◌+◌, ◌≤◌, ◌++◌, length};
 ghost use Rattle.ascii.specs.Decimals.{most_places, decimal};
 ghost use Rattle.ascii.specs.Laying.{Laid};
-ghost use Rattle.checking.specs.Tallied.{no_files, one_more, tallied, files, worth_telling, ending_of, tally_told, tallies_room, tally_line, tally_room};
+ghost use Rattle.checking.specs.Tallied.{no_files, tallied, files, worth_telling, ending_of, tally_told, tallies_room, tally_line, tally_room};
 
 use ascii::{NEWLINE, put_byte, put_bytes, put_number};
 use streams::Ending;
-
-const MOST_FILES: u32 = 4294967295;
 
 // How many files were accepted, were refused, and could not be read.
 #[derive(Clone, Copy)]
@@ -36,35 +34,22 @@ pub fn no_files() -> Tally
     }
 }
 
-// One more, up to the most that can be counted.
-fn one_more(n: u32) -> u32
-    ensures { result ≡ one_more n }
-{
-    if n < MOST_FILES {
-        return n + 1;
-    }
-    n
-}
-
-// One file more.
+// One file more, up to the most that can be counted.
 pub fn count_file(t: Tally, c: Came) -> Tally
     ensures { result ≡ tallied t c }
 {
     match c {
         Came::Accepted => Tally {
-            accepted: one_more(t.accepted),
-            refused: t.refused,
-            unread: t.unread,
+            accepted: t.accepted.saturating_add(1),
+            ..t
         },
         Came::Refused => Tally {
-            accepted: t.accepted,
-            refused: one_more(t.refused),
-            unread: t.unread,
+            refused: t.refused.saturating_add(1),
+            ..t
         },
         Came::Unread => Tally {
-            accepted: t.accepted,
-            refused: t.refused,
-            unread: one_more(t.unread),
+            unread: t.unread.saturating_add(1),
+            ..t
         },
     }
 }
@@ -73,14 +58,14 @@ pub fn count_file(t: Tally, c: Came) -> Tally
 fn files(t: Tally) -> u64
     ensures { result ≡ files t }
 {
-    t.accepted as u64 + t.refused as u64 + t.unread as u64
+    u64::from(t.accepted) + u64::from(t.refused) + u64::from(t.unread)
 }
 
 // Whether the sum is told: of several files, not all were accepted.
 pub fn worth_telling(t: Tally) -> bool
     ensures { result ≡ worth_telling t }
 {
-    let others = t.refused as u64 + t.unread as u64;
+    let others = u64::from(t.refused) + u64::from(t.unread);
     if others < 1 {
         return false;
     }
@@ -114,9 +99,9 @@ fn put_tally(out: &mut [u8], at: usize, t: Tally) -> usize
     ensures { Laid out.old at (tally_told t) out.new result × (result ≤ at + tallies_room) }
 {
     let at = put_count(out, at, files(t), b" files: ");
-    let at = put_count(out, at, t.accepted as u64, b" accepted, ");
-    let at = put_count(out, at, t.refused as u64, b" refused, ");
-    put_count(out, at, t.unread as u64, b" can't be read")
+    let at = put_count(out, at, u64::from(t.accepted), b" accepted, ");
+    let at = put_count(out, at, u64::from(t.refused), b" refused, ");
+    put_count(out, at, u64::from(t.unread), b" can't be read")
 }
 
 // "`bin/poolmirror: N files: A accepted, R refused, U can't be read`" from the front of `out`. Answers its length.

@@ -1,6 +1,6 @@
 // What is in an accepted score: how many actions, and which parts.
-ghost use Rattle.std.specs.Prelude.{◌≡◌, ◌≤◌, set};
-ghost use Rattle.contents.specs.Limits.{most_actions, last_part};
+ghost use Rattle.std.specs.Prelude.{◌≡◌, ◌≤◌};
+ghost use Rattle.contents.specs.Limits.{most_actions};
 ghost use Rattle.items.specs.Items.{own_of};
 ghost use Rattle.score.specs.File.{Accepted};
 ghost use Rattle.score.specs.Piece.{decode};
@@ -27,34 +27,20 @@ pub fn action_count(file: &[u8]) -> usize
     requires { Accepted file.now }
     ensures { (result ≡ actions_in (decode file.now).items) × (result ≤ most_actions) }
 {
-    let items = item_count(file);
-    let mut p = 0;
     let mut n = 0;
-    while p < items {
+    for p in 0..item_count(file) {
         n += own(read_item(file, p));
-        p += 1;
     }
     n
 }
 
-// Marks one part.
-fn mark(marks: &mut [u8; 16], part: usize)
-    requires { part ≤ last_part }
-    ensures { marks.new ≡ set marks.old part 1 }
-{
-    marks[part] = 1;
-}
-
 // Marks the part of each item, in one pass.
-pub fn mark_parts(file: &[u8], marks: &mut [u8; 16])
+pub fn mark_parts(file: &[u8], marks: &mut [u8; PARTS])
     requires { Accepted file.now }
     ensures { marks.new ≡ marked marks.old (decode file.now).items }
 {
-    let items = item_count(file);
-    let mut p = 0;
-    while p < items {
+    for p in 0..item_count(file) {
         let i = read_item(file, p);
-        mark(marks, i.part);
-        p += 1;
+        marks[i.part] = 1;
     }
 }

@@ -6,15 +6,6 @@ use Rattle.checking.proofs.parts.put_part.Goals as goal
 pub returns-then-mark-eq0 : goal.returns-then-mark-eq0
 returns-then-mark-eq0 c = search parts
 
-pub put_byte-next-requires : goal.put_byte-next-requires
-put_byte-next-requires c = search parts
-
-pub put_number-requires : goal.put_number-requires
-put_number-requires c = search parts
-
-pub shape_of-out : goal.shape_of-out
-shape_of-out c = search parts
-
 pub returns : goal.returns
 returns c = (
   part-told _ _ _ _ _ _ _ _ c.if-mark-eq0.false c.put_byte-next.ensures c.put_number.ensures.0,
