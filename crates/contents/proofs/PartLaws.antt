@@ -14,11 +14,6 @@ module _ (f : List ℕ) where
   unfolding part
   part_length at n p = length-take-le n (drop at f) (simp length-drop (omega arith))
 
-  pub part_none : (at n : ℕ) → n ≤ 0 → part f at n ≡ []
-  unfolding part
-  part_none at zero p = refl
-  part_none at (suc n) p = absurd (omega arith)
-
   pub part-more : (at n : ℕ) → 0 < n → at + n ≤ length f → part f at n ≡ byte_at f at ∷ part f (at + 1) (n - 1)
   unfolding part
   part-more at zero p q = absurd (omega arith)
