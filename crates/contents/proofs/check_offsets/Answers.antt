@@ -1,6 +1,5 @@
 -- Each early return is the first fault of the table; the tests before it have passed.
 -- Assumes nothing.
-use borrow.Author.Rules.{rules}
 use Rattle.contents.specs.Contents.{offsets_right}
 use Rattle.contents.proofs.ContentsLaws.{places}
 use Rattle.contents.proofs.check_offsets.Goals as goal

@@ -1,6 +1,5 @@
 -- The tests of the code are those of the definition, in its order.
 -- Assumes nothing.
-use borrow.Author.Rules.{rules}
 use Rattle.base.proofs.TestLaws.{tests}
 use Rattle.items.specs.Items.{event_right}
 use Rattle.items.proofs.event_right.Goals as goal

@@ -1,6 +1,5 @@
 -- What each rule told, in the order of the definition.
 -- Assumes nothing.
-use borrow.Author.Rules.{rules}
 use Rattle.base.proofs.TestLaws.{calls}
 use Rattle.items.specs.Inner.{fields_right}
 use Rattle.items.proofs.fields_right.Goals as goal

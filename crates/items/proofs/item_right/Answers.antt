@@ -1,6 +1,5 @@
 -- What each half of the rules told, in the order of the definition.
 -- Assumes nothing.
-use borrow.Author.Rules.{rules}
 use Rattle.base.proofs.TestLaws.{calls}
 use Rattle.items.proofs.BrokenRules.{right-halves}
 use Rattle.items.proofs.item_right.Goals as goal

@@ -1,6 +1,5 @@
 -- What each rule told, in the order of the definition.
 -- Assumes nothing.
-use borrow.Author.Rules.{rules}
 use Rattle.items.specs.Items.{item_right}
 use Rattle.items.proofs.BrokenRules.{broken}
 use Rattle.items.proofs.broken.rule_broken.Goals as goal
