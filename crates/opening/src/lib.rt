@@ -4,13 +4,13 @@
 ghost use Rattle.std.specs.Prelude.{◌≡◌, [], ◌∷◌, map, ◌+◌, ◌≤◌, length};
 ghost use Rattle.contents.specs.Limits.{most_events, most_items};
 ghost use Rattle.contents.specs.Contents.{counts_of};
-ghost use Rattle.score.specs.File.{Accepted};
 ghost use Rattle.score.specs.Piece.{decode};
 ghost use Rattle.fates.specs.Fields.{item_word};
 ghost use Rattle.session.specs.Layout.{memory_size, mark_at, starts_at, page_at, tempo_at, mark};
 ghost use Rattle.opening.specs.Opening.{with_words, starts_of, cleared, new_session, opened};
 
 use fates::words::item_word;
+use score::AcceptedFile;
 use session::Refusal;
 use session::layout::{
     EVENT_COUNT_AT, GRACE_AT, ITEM_COUNT_AT, MARK, MARK_AT, MEMORY_SIZE, MOST_GRACE, MOST_TEMPO,
@@ -28,13 +28,6 @@ pub struct OpeningReply {
     pub number: usize,
     pub place: usize,
     pub parts: u32,
-}
-
-// The bytes of a score file that the check accepts.
-#[derive(Clone, Copy)]
-struct AcceptedFile<'a> {
-    bytes: &'a [u8],
-    ghost accepted: { Accepted bytes.now },
 }
 
 // "Words past 8,192 are never read or changed."

@@ -8,12 +8,11 @@ ghost use Rattle.lines.specs.Output.{line_room, bad_line};
 ghost use Rattle.playing.specs.Printed.{carried, ending};
 ghost use Rattle.playing.specs.Inner.{Asked, Carries};
 
-use accepted::AcceptedFile;
 use lines::Command;
 use openings::open_line;
+use score::AcceptedFile;
 use sendings::{figures_of, hear_line, pass_line};
 
-mod accepted;
 mod openings;
 mod sendings;
 

@@ -9,7 +9,7 @@ ghost use Rattle.playing.specs.Printed.{figures_of, sent_line, sent_lines, sendi
 ghost use Rattle.playing.specs.Inner.{message_room, output_room, Fits, Carries};
 
 use crate::Line;
-use crate::accepted::AcceptedFile;
+use score::AcceptedFile;
 use sequencer::Figures;
 use session::Refusal;
 

@@ -18,9 +18,12 @@ use look_up::{Span, accepted_span, label_span};
 use page::Item;
 use units::Grains;
 
+mod accepted_file;
 mod bodies;
 mod events;
 mod look_up;
+
+pub use accepted_file::AcceptedFile;
 
 // The first fault of a file.
 pub fn check_file(file: &[u8]) -> Result<(), Fault>

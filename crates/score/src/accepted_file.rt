@@ -1,7 +1,7 @@
 // A score file that the check accepts.
 ghost use Rattle.score.specs.File.{Accepted};
 
-// Its bytes: a session is open on no others, so whatever prints a message takes these.
+// Its bytes. Whoever has checked a file hands it on as this.
 #[derive(Clone, Copy)]
 pub struct AcceptedFile<'a> {
     pub bytes: &'a [u8],
