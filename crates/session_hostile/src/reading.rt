@@ -84,7 +84,9 @@ fn number(word: &[u8]) -> u64 {
 }
 
 // The numbers behind a place, and how many there are; seven stands for more.
-pub fn read(line: &[u8], at: usize, n: &mut Numbers) -> usize {
+pub fn read(line: &[u8], at: usize, n: &mut Numbers) -> usize
+    ensures { result ≤ 7 }
+{
     let mut from = at;
     let mut count = 0;
     // Where the next number begins, `find` answers.

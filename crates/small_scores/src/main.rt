@@ -194,6 +194,7 @@ fn last(first: u8, number: Option<u64>) -> Option<u64> {
 // The fields before, and one more: kind with synchrony and the error word are below 4, the part below 16, a delay has six digits, event and last have two.
 fn joined(before: u64, bound: u64, x: u64) -> u64
     requires { (0 < bound) × (bound ≤ 1000000) }
+    ensures { result < 1000000000000000000 }
 {
     bound * (before % 100000000000) + x % bound
 }
