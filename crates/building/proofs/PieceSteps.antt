@@ -59,7 +59,8 @@ module _ (o m : List ℕ) (at r : ℕ) (i : Item) where
   unfolding group_item
   lay-group last l = l
 
-  pub lay-pass : (delay last : ℕ) → Laid o at (item_bytes (record { kind = 1; synchrony = i.synchrony; error = i.error; part = i.part; delay = record { 0 = delay }; event = 0; last = last } ∷ [])) m r
+  pub lay-pass : (delay last : ℕ)
+      → Laid o at (item_bytes (group_item (record { kind = i.kind; synchrony = i.synchrony; error = i.error; part = i.part; delay = record { 0 = delay }; event = 0; last = i.last }) last ∷ [])) m r
       → Laid o at (item_bytes (group_item (pass_item i delay) last ∷ [])) m r
   unfolding group_item pass_item
   lay-pass delay last l = l

@@ -17,16 +17,7 @@ pub fn put_group(out: &mut [u8], at: usize, i: Item, last: usize) -> usize
     requires { (at + item_size ≤ length out.old) × Fitting i × (last ≤ most_items) }
     ensures { Laid out.old at (item_bytes (group_item i last ∷ [])) out.new result × (result ≡ at + item_size) }
 {
-    let delay = i.delay;
-    let g = Item {
-        kind: 1,
-        synchrony: i.synchrony,
-        error: i.error,
-        part: i.part,
-        delay,
-        event: i.event,
-        last,
-    };
+    let g = Item { kind: 1, last, ..i };
     put_item(out, at, g)
 }
 
@@ -35,15 +26,10 @@ pub fn put_pass(out: &mut [u8], at: usize, i: Item, delay: usize, last: usize) -
     requires { (at + item_size ≤ length out.old) × Fitting i × (delay < word_range) × (last ≤ most_items) }
     ensures { Laid out.old at (item_bytes (group_item (pass_item i delay) last ∷ [])) out.new result × (result ≡ at + item_size) }
 {
-    let delay = Grains(delay as u64);
-    let g = Item {
-        kind: 1,
-        synchrony: i.synchrony,
-        error: i.error,
-        part: i.part,
-        delay,
+    let pass = Item {
+        delay: Grains(delay as u64),
         event: 0,
-        last,
+        ..i
     };
-    put_item(out, at, g)
+    put_group(out, at, pass, last)
 }
