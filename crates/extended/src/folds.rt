@@ -5,9 +5,9 @@ ghost use Rattle.contents.specs.Bytes.{u32_at};
 ghost use Rattle.units.specs.declared.Grains.{Grains};
 ghost use Rattle.extended.specs.Layout.{folded_size};
 ghost use Rattle.extended.specs.Folds.{folded_at};
-ghost use Rattle.extended.specs.Inner.{word_range, SmallFolded};
+ghost use Rattle.extended.specs.Inner.{word_range, SmallFolded, points_of};
 
-use crate::Folded;
+use crate::{CURVE, Folded};
 use contents::bytes::{byte, read16, read32};
 use page::Item;
 use units::Grains;
@@ -50,4 +50,14 @@ pub fn folded_at(file: &[u8], at: usize) -> Folded
         times,
         pad,
     }
+}
+
+// How many points an item takes: only a curve has any.
+pub fn points_of(i: Folded) -> usize
+    ensures { result ≡ points_of i }
+{
+    if i.item.kind == CURVE {
+        return i.times;
+    }
+    0
 }

@@ -3,10 +3,13 @@
 
 use page::Item;
 
+// "Kind 2 is a loop, 3 a curve"
+pub const CURVE: usize = 3;
+
 mod folds;
 pub mod layout;
 
-pub use folds::folded_at;
+pub use folds::{folded_at, points_of};
 pub use layout::extent_of;
 
 // The table of contents: how many of each there are.

@@ -1,6 +1,6 @@
 -- The items one by one, with the points that are left: what each rule told, and what the items passed leave.
 -- Assumes nothing.
-use mathlib.Core.Path.{◌≡◌, refl, ◌∙◌, ap, subst}
+use mathlib.Core.Path.{◌≡◌, refl, sym, ◌∙◌, ap, subst}
 use mathlib.Core.Bool.{Bool, true, false, not}
 use mathlib.Core.List.{List, [], ◌∷◌}
 use Prim.Native.Nat.{ℕ, ◌+◌, ◌-◌, ◌*◌, ◌<◌, ◌≤◌}
@@ -19,7 +19,7 @@ use Rattle.extended.specs.Folds.{folded_at}
 use Rattle.extended.specs.Points.{points_from, spans_right, points_after}
 use Rattle.extended.specs.Right.{own_right, item_of}
 use Rattle.extended.proofs.ListLaws.{points-length, points-take}
-use Rattle.extended.proofs.TakeLaws.{takes-times, takes_none, takes-left, points-behind}
+use Rattle.extended.proofs.TakeLaws.{takes-left, points-behind}
 use Rattle.folding.specs.Inner.{Tabled, points_of, points_left, FirstWrong}
 
 -- ---- the points left
@@ -44,13 +44,8 @@ pub ruleset curves = (points-over, points-in, spans-told, tests)
 
 -- ---- the points that an item takes
 
-pub takes-few : (i : Folded) (left : ℕ) → i.item.kind ≡ 3 → points_of i ≤ left → i.times ≤ left
-takes-few i left e p = omega (arith, takes-times i e)
-
-pub takes_told : (f : List ℕ) (p left : ℕ) (i : Folded) (b : Bool) → b ≡ own_right i (points_from f p left) → not b ≡ false → points_of i ≤ left
-takes_told f p left i b e h = takes-left f p left i (told-true b _ e h)
-
-pub ruleset taking = (takes-times, takes-few, takes_none, rules)
+pub takes_told : (f : List ℕ) (p left : ℕ) (i : Folded) (b : Bool) (n : ℕ) → b ≡ own_right i (points_from f p left) → b ≡ true → n ≡ points_of i → n ≤ left
+takes_told f p left i b n e h q = omega (arith, q, takes-left f p left i (sym e ∙ h))
 
 -- ---- the loop
 

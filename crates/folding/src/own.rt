@@ -3,12 +3,12 @@ ghost use Rattle.std.specs.Prelude.{◌≡◌, ◌+◌, ◌*◌, ◌≤◌, leng
 ghost use Rattle.extended.specs.Layout.{point_size};
 ghost use Rattle.extended.specs.Points.{points_from};
 ghost use Rattle.extended.specs.Right.{loop_right, curve_right, plain_right, own_right};
-ghost use Rattle.folding.specs.Inner.{points_of, Tabled, FirstWrong};
+ghost use Rattle.folding.specs.Inner.{Tabled, FirstWrong};
 
 use crate::spans::spans_right;
 use contents::limits::LONGEST;
 use extended::layout::{FOLDED_SIZE, POINT_SIZE, items_start, points_start};
-use extended::{Extent, Folded, folded_at};
+use extended::{CURVE, Extent, Folded, folded_at, points_of};
 
 const MOST_PASSES: usize = 256;
 
@@ -76,21 +76,10 @@ fn own_right(file: &[u8], i: Folded, at: usize, left: usize) -> bool
     if i.item.kind == 2 {
         return loop_right(i);
     }
-    if i.item.kind == 3 {
+    if i.item.kind == CURVE {
         return curve_right(file, i, at, left);
     }
     plain_right(i)
-}
-
-// How many of the points left an item takes.
-fn points_of(i: Folded, left: usize) -> usize
-    requires { points_of i ≤ left }
-    ensures { (result ≡ points_of i) × (result ≤ left) }
-{
-    if i.item.kind == 3 {
-        return i.times;
-    }
-    0
 }
 
 // The first item that is wrong by itself, or the number after the last.
@@ -106,7 +95,7 @@ pub fn first_wrong(file: &[u8], c: Extent) -> Reached
         if !own_right(file, i, p, left) {
             return Reached { number, left };
         }
-        let taken = points_of(i, left);
+        let taken = points_of(i);
         p += POINT_SIZE * taken;
         left -= taken;
         at += FOLDED_SIZE;

@@ -9,9 +9,9 @@ ghost use Rattle.extended.specs.Points.{point_at, points_from, values_of};
 ghost use Rattle.extended.specs.Inner.{word_range, SmallFolded};
 ghost use Rattle.tables.specs.Inner.{most_count, times_as, points_left, Drawn, Reached};
 
-use crate::reading::{CURVE, points_at, span_at};
+use crate::reading::{points_at, span_at};
 use extended::layout::POINT_SIZE;
-use extended::{Extent, Folded};
+use extended::{CURVE, Extent, Folded};
 
 // The steps from the point at `at` to the next one.
 fn count_span(file: &[u8], at: usize, step: usize) -> usize

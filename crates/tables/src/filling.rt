@@ -10,9 +10,9 @@ ghost use Rattle.extended.specs.Inner.{Foldable};
 ghost use Rattle.tables.specs.Tables.{values_in, Valued};
 ghost use Rattle.tables.specs.Inner.{points_left, Drawn, Reached, Spanned, Addable, Added};
 
-use crate::reading::{CURVE, item_of, points_at, points_of, span_at, value_at};
+use crate::reading::{item_of, points_at, span_at, value_at};
 use extended::layout::POINT_SIZE;
-use extended::{Extent, Folded};
+use extended::{CURVE, Extent, Folded, points_of};
 use values::curve_value;
 
 // The values from one point, v, to before the next, w.

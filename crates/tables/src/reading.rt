@@ -7,15 +7,12 @@ ghost use Rattle.extended.specs.Layout.{folded_size, point_size, items_start, po
 ghost use Rattle.extended.specs.Folds.{folded_at};
 ghost use Rattle.extended.specs.Points.{point_at};
 ghost use Rattle.extended.specs.Inner.{word_range, SmallFolded};
-ghost use Rattle.tables.specs.Inner.{points_of, ItemIn, PointIn};
+ghost use Rattle.tables.specs.Inner.{ItemIn, PointIn};
 
 use contents::bytes::read32;
 use extended::layout::{FOLDED_SIZE, POINT_SIZE, items_start, points_start};
 use extended::{Extent, Folded, folded_at};
 use values::raised;
-
-// "Kind 2 is a loop, 3 a curve"
-pub const CURVE: usize = 3;
 
 // The item number k.
 pub fn item_of(file: &[u8], c: Extent, k: usize) -> Folded
@@ -31,16 +28,6 @@ pub fn points_at(c: Extent, used: usize) -> usize
     ensures { result ≡ points_start c + point_size * used }
 {
     points_start(c) + POINT_SIZE * used
-}
-
-// How many points an item takes.
-pub fn points_of(i: Folded) -> usize
-    ensures { result ≡ points_of i }
-{
-    if i.item.kind == CURVE {
-        return i.times;
-    }
-    0
 }
 
 // A point's value, raised.

@@ -9,9 +9,9 @@ ghost use Rattle.tables.specs.Tables.{row_of, Tabled};
 ghost use Rattle.tables.specs.Inner.{RowIn};
 
 use crate::counting::{count_values, times_of};
-use crate::reading::{item_of, points_of};
+use crate::reading::item_of;
 use contents::limits::MOST_ACTIONS;
-use extended::{Extent, Folded};
+use extended::{Extent, Folded, points_of};
 use shapes::ROW_WORDS;
 
 // One word more.

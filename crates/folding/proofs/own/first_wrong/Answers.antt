@@ -1,4 +1,4 @@
-use Rattle.folding.proofs.OwnSteps.{items-reached}
+use Rattle.folding.proofs.OwnSteps.{takes_told, items-reached}
 use Rattle.folding.proofs.own.first_wrong.Goals as goal
 
 pub items_start-at-requires : goal.items_start-at-requires
@@ -19,23 +19,28 @@ own_right-requires c = search items-reached
 pub returns-then-not-own_right : goal.returns-then-not-own_right
 returns-then-not-own_right c = search items-reached
 
-pub points_of-taken-requires : goal.points_of-taken-requires
-points_of-taken-requires c = search items-reached
-
 pub overflow_mul-p : goal.overflow_mul-p
-overflow_mul-p c = search items-reached
+overflow_mul-p c =
+    let few = takes_told _ _ _ _ _ _ c.own_right.ensures c.if-not-own_right.false c.points_of-taken.ensures in
+    search (items-reached, few)
 
 pub overflow_add-p : goal.overflow_add-p
-overflow_add-p c = search items-reached
+overflow_add-p c =
+    let few = takes_told _ _ _ _ _ _ c.own_right.ensures c.if-not-own_right.false c.points_of-taken.ensures in
+    search (items-reached, few)
 
 pub overflow_sub-left : goal.overflow_sub-left
-overflow_sub-left c = search items-reached
+overflow_sub-left c =
+    let few = takes_told _ _ _ _ _ _ c.own_right.ensures c.if-not-own_right.false c.points_of-taken.ensures in
+    search (items-reached, few)
 
 pub overflow_add-at : goal.overflow_add-at
 overflow_add-at c = search items-reached
 
 pub loop-number-preserved : goal.loop-number-preserved
-loop-number-preserved c = search items-reached
+loop-number-preserved c =
+    let few = takes_told _ _ _ _ _ _ c.own_right.ensures c.if-not-own_right.false c.points_of-taken.ensures in
+    search (items-reached, few)
 
 pub returns : goal.returns
 returns c = search items-reached

@@ -19,9 +19,9 @@ returns-then-i-eq2 c = search (tests, rules) depth 9
 pub curve_right-requires : goal.curve_right-requires
 curve_right-requires c = search rules
 
-pub returns-then-i-eq3 : goal.returns-then-i-eq3
+pub returns-then-i-eq-CURVE : goal.returns-then-i-eq-CURVE
 unfolding own_right
-returns-then-i-eq3 c = search (tests, rules) depth 9
+returns-then-i-eq-CURVE c = search (tests, rules) depth 9
 
 pub plain_right-requires : goal.plain_right-requires
 plain_right-requires c = search rules
