@@ -20,7 +20,7 @@ pub struct Checked {
     pub accepted: bool,
 }
 
-// How much of everything an accepted file has, behind the first `at` bytes.
+// How much of everything an accepted file has, behind the first `at` bytes. Accepted by a clause here, as the functions of score ask for it.
 fn put_counts(out: &mut [u8], at: usize, file: &[u8]) -> usize
     requires { Accepted file.now × (at + counts_room ≤ length out.old) }
     ensures { Laid out.old at (counts_told file.now) out.new result × (result ≤ at + counts_room) }

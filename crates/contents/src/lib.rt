@@ -113,7 +113,7 @@ pub fn read_counts(file: &[u8]) -> Counts
     }
 }
 
-// Where the items, the messages and the text of right counts start, and where the file ends.
+// Where the items, the messages and the text of right counts start, and where the file ends. `Counted` is a clause and no type: `counts_of` and `counts_right`, which say what a file's counts are, speak of any.
 pub fn items_at(c: Counts) -> usize
     requires { Counted c }
     ensures { result ≡ items_at c }

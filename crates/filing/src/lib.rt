@@ -1,4 +1,5 @@
 // The bytes of a score file laid in lent bytes, for whatever makes a file: numbers, items, message entries, the contents, and all of it in one.
+// A place beside the bytes, as in ascii's laying: `Laid` says what stands before it and behind it.
 #![tactic(auto)]
 
 pub use bodies::{join, settle_file};

@@ -43,7 +43,7 @@ pub fn item_at(file: &[u8], at: usize) -> Item
     }
 }
 
-// The rules, in the order of specs/Items.
+// The rules, in the order of specs/Items. Each takes what it asks of, and no struct of all five: which rule looks at what is seen here.
 fn kind_right(i: Item) -> bool
     ensures { result ≡ kind_right i }
 {

@@ -74,7 +74,7 @@ pub fn accepted_label(file: &[u8], n: u64) -> &[u8]
     spanned(file, accepted_span(file, n))
 }
 
-// How many events, items and messages an accepted file has.
+// How many events, items and messages an accepted file has. By a clause and not by a type: docs/PROOFS.md names these functions and `accepted_label`, so they ask of a caller what they asked.
 pub fn event_count(file: &[u8]) -> usize
     requires { Accepted file.now }
     ensures { (result ≡ (counts_of file.now).events) × (1 ≤ result) × (result ≤ most_events) }
