@@ -1,4 +1,5 @@
 // One line of the input of `play` carried out, and the end: what is printed is laid in lent bytes.
+// Each asks for room by a clause: a type around the lent bytes would be built at each call, and taken apart again in it.
 #![tactic(auto)]
 
 ghost use Rattle.std.specs.Prelude.{◌≡◌, true, ◌≤◌, length};
@@ -40,6 +41,7 @@ fn bad_line(number: u64, opened: bool, out: &mut [u8]) -> Line
 
 // Carries out line `number` of the input: what it prints are the first bytes of `out`, and the others stay. An opening is given the grace.
 // File, memory, room and output are lent apart, since the session's calls take some of them each, and `Carries` speaks of each.
+// A `match`, and no closure for a command: the arms differ in what they lend, and the command is read and carried out in one place.
 pub fn play_line(
     file: &[u8],
     grace: u64,
