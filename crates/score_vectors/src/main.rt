@@ -2,7 +2,7 @@
 // and the label's bytes in hexadecimal. The file `stdout` says what is right; it comes from tests/vectors, which shares no code with the crate.
 #![tactic(auto)]
 
-ghost use Rattle.std.specs.Prelude.{◌<◌};
+ghost use Rattle.std.specs.Prelude.{◌≡◌, true, ◌≤◌, length};
 
 use std::fs::File;
 use std::os::fd::AsRawFd;
@@ -10,35 +10,14 @@ use std::rt::HostRuntime;
 
 const OUT: i32 = 1;
 
-// The number in the first count bytes, little-endian.
-fn number(bytes: &[u8], count: usize) -> u64 {
-    let mut sum: u64 = 0;
-    let mut i = count;
-    while 0 < i {
-        i -= 1;
-        if i < bytes.len() {
-            sum = sum % 72057594037927936 * 256 + wide(bytes[i]);
-        }
-    }
-    sum
-}
-
-fn wide(x: u8) -> u64
-    ensures { result < 256 }
-{
-    x as u64
-}
-
 // The label in hexadecimal, or a dash where there is none.
 fn print_label(label: &[u8]) {
     if label.len() == 0 {
         io::write_all(OUT, b"-");
         return;
     }
-    let mut i = 0;
-    while i < label.len() {
-        io::print_hex(OUT, wide(label[i]), 2);
-        i += 1;
+    for &b in label {
+        io::print_hex(OUT, u64::from(b), 2);
     }
 }
 
@@ -58,49 +37,40 @@ fn print_vector(name: &[u8], file: &[u8], n: u64) {
 }
 
 // Fills the first size bytes of buf: false where it has fewer, or where the input ends before.
-fn read_part(fd: i32, buf: &mut [u8], size: usize) -> bool {
+fn read_part(fd: i32, buf: &mut [u8], size: usize) -> bool
+    ensures { result ≡ true → size ≤ length buf.new }
+{
     if buf.len() < size {
         return false;
     }
-    let from = 0;
-    let got = io::read_full(fd, &mut buf[from..size]);
-    got == size
+    io::read_full(fd, &mut buf[..size]) == size
 }
 
-fn print_parts(name: &[u8], long: usize, file: &[u8], size: usize, n: u64) {
-    if name.len() < long {
-        return;
+// The length in four bytes, little-endian: none at the input's end.
+fn read_length(fd: i32) -> Option<usize> {
+    let mut bytes = [0u8; 4];
+    if !read_part(fd, &mut bytes, 4) {
+        return None;
     }
-    if file.len() < size {
-        return;
-    }
-    let from = 0;
-    print_vector(&name[from..long], &file[from..size], n);
+    Some(u32::from_le_bytes(bytes) as usize)
 }
 
-// One record from the input: false at its end, or where a record is cut off or longer than there is room for.
-fn run_vector(fd: i32, name: &mut [u8], file: &mut [u8]) -> bool {
-    let mut head = [0u8; 8];
-    if !read_part(fd, &mut head, 4) {
-        return false;
-    }
-    let long = number(&head, 4) as usize;
+// One record from the input: none at its end, or where a record is cut off or longer than there is room for.
+fn run_vector(fd: i32, name: &mut [u8], file: &mut [u8]) -> Option<()> {
+    let long = read_length(fd)?;
     if !read_part(fd, name, long) {
-        return false;
+        return None;
     }
-    if !read_part(fd, &mut head, 4) {
-        return false;
+    let size = read_length(fd)?;
+    let mut n = [0u8; 8];
+    if !read_part(fd, &mut n, 8) {
+        return None;
     }
-    let size = number(&head, 4) as usize;
-    if !read_part(fd, &mut head, 8) {
-        return false;
-    }
-    let n = number(&head, 8);
     if !read_part(fd, file, size) {
-        return false;
+        return None;
     }
-    print_parts(name, long, file, size, n);
-    true
+    print_vector(&name[..long], &file[..size], u64::from_le_bytes(n));
+    Some(())
 }
 
 fn main(rt: HostRuntime) {
@@ -110,11 +80,9 @@ fn main(rt: HostRuntime) {
     let fd = vectors.as_raw_fd();
     let mut name = [0u8; 64];
     let mut file = [0u8; 65536];
-    let mut turns: u32 = 0;
-    while turns < 100000 {
-        if !run_vector(fd, &mut name, &mut file) {
+    for _ in 0..100000 {
+        if run_vector(fd, &mut name, &mut file).is_none() {
             return;
         }
-        turns += 1;
     }
 }

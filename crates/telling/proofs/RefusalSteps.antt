@@ -32,7 +32,7 @@ pub tells-unopened : (bs : List ℕ) (t : Bool) → t ≡ same (bytes_of "bad 1\
 unfolding tells_unopened
 tells-unopened bs t e = e
 
-pub ruleset printing = (tells-granted, tells-other, tells-grace, tells-unopened, length-take-le, rules)
+pub ruleset printing = (tells-granted, tells-other, tells-grace, tells-unopened, rules)
 
 -- ---- after a line
 

@@ -18,14 +18,25 @@ const SAID_ROOM: usize = 4608;
 
 // ---- names
 
-// How many bytes of a name are told.
-fn told(name: &[u8]) -> usize
-    ensures { (result ≤ most_name) × (result ≤ length name.now) × (take result name.now ≡ told_name name.now) }
+// As much of a name as is told.
+fn told(name: &[u8]) -> &[u8]
+    ensures { (result.now ≡ told_name name.now) × (length result.now ≤ most_name) }
 {
     if MOST_NAME < name.len() {
-        return MOST_NAME;
+        return &name[..MOST_NAME];
     }
-    name.len()
+    name
+}
+
+// ---- saying a line
+
+// Says the line that `put` lays from the front of a room, of the length that it answers.
+fn say_line<P: FnOnce(&mut [u8]) -> usize>(rt: &HostRuntime, put: P)
+    requires { (text : _) → said_room ≤ length text.now → P.pre put text }
+{
+    let mut text = [0u8; SAID_ROOM];
+    let n = put(&mut text);
+    streams::say_first(rt, &text, n);
 }
 
 // ---- an input that can't be read
@@ -35,14 +46,11 @@ fn put_unread(text: &mut [u8], name: &[u8], error: i32) -> usize
     requires { said_room ≤ length text.old }
     ensures { Laid text.old 0 (unread_line (told_name name.now) error) text.new result }
 {
-    let n = told(name);
-    reasons::unread_line(text, &name[..n], error)
+    reasons::unread_line(text, told(name), error)
 }
 
 pub fn say_unread(rt: &HostRuntime, name: &[u8], error: i32) {
-    let mut text = [0u8; SAID_ROOM];
-    let n = put_unread(&mut text, name, error);
-    streams::say_first(rt, &text, n);
+    say_line(rt, |text| put_unread(text, name, error));
 }
 
 // ---- an output that can't be written
@@ -51,14 +59,11 @@ fn put_unwritten(text: &mut [u8], name: &[u8], error: i32) -> usize
     requires { said_room ≤ length text.old }
     ensures { Laid text.old 0 (unwritten_line (told_name name.now) error) text.new result }
 {
-    let n = told(name);
-    reasons::unwritten_line(text, &name[..n], error)
+    reasons::unwritten_line(text, told(name), error)
 }
 
 pub fn say_unwritten(rt: &HostRuntime, name: &[u8], error: i32) {
-    let mut text = [0u8; SAID_ROOM];
-    let n = put_unwritten(&mut text, name, error);
-    streams::say_first(rt, &text, n);
+    say_line(rt, |text| put_unwritten(text, name, error));
 }
 
 // ---- a refused opening
@@ -93,8 +98,7 @@ fn put_refused(text: &mut [u8], name: &[u8], file: &[u8], x: Refusal) -> usize
     requires { said_room ≤ length text.old }
     ensures { Laid text.old 0 (refused_line name.now file.now x) text.new result }
 {
-    let n = told(name);
-    refusals::refusal_line(text, &name[..n], file, x)
+    refusals::refusal_line(text, told(name), file, x)
 }
 
 // The line that tells people why an opening was refused, with the name of what it was refused for.
@@ -110,47 +114,41 @@ fn put_refusal(text: &mut [u8], score: &[u8], first: &[u8], file: &[u8], x: Refu
 }
 
 fn say_refusal(rt: &HostRuntime, file: &[u8], score: &[u8], first: &[u8], nineteen: bool) {
-    let mut text = [0u8; SAID_ROOM];
     let x = playing::why_refused(file, nineteen);
-    let n = put_refusal(&mut text, score, first, file, x);
-    streams::say_first(rt, &text, n);
+    say_line(rt, |text| put_refusal(text, score, first, file, x));
 }
 
-// Whether the first n bytes of `out`, which a line printed, tell of an opening that is refused.
-fn is_refusal(out: &[u8], n: usize) -> bool
-    requires { n ≤ length out.now }
-    ensures { result ≡ tells_refusal (take n out.now) }
+// Whether what a line printed tells of an opening that is refused.
+fn is_refusal(printed: &[u8]) -> bool
+    ensures { result ≡ tells_refusal printed.now }
 {
-    if ascii::begins(b"open 0 ", &out[..n]) {
+    if ascii::begins(b"open 0 ", printed) {
         return false;
     }
-    ascii::begins(b"open ", &out[..n])
+    ascii::begins(b"open ", printed)
 }
 
-// Whether they tell of one that is refused for its grace.
-fn is_grace(out: &[u8], n: usize) -> bool
-    requires { n ≤ length out.now }
-    ensures { result ≡ tells_grace (take n out.now) }
+// Whether it tells of one that is refused for its grace.
+fn is_grace(printed: &[u8]) -> bool
+    ensures { result ≡ tells_grace printed.now }
 {
-    ascii::begins(b"open 19 ", &out[..n])
+    ascii::begins(b"open 19 ", printed)
 }
 
 // ---- a first line that opens nothing
 
-// Whether the first n bytes of `out`, which a line printed, tell of it.
-fn is_unopened(out: &[u8], n: usize) -> bool
-    requires { n ≤ length out.now }
-    ensures { result ≡ tells_unopened (take n out.now) }
+// Whether what a line printed tells of it.
+fn is_unopened(printed: &[u8]) -> bool
+    ensures { result ≡ tells_unopened printed.now }
 {
-    ascii::same(b"bad 1\n", &out[..n])
+    ascii::same(b"bad 1\n", printed)
 }
 
 fn put_unopened(text: &mut [u8], first: &[u8]) -> usize
     requires { said_room ≤ length text.old }
     ensures { Laid text.old 0 (unopened_line first.now) text.new result }
 {
-    let n = told(first);
-    let at = put_bytes(text, 0, &first[..n]);
+    let at = put_bytes(text, 0, told(first));
     put_bytes(
         text,
         at,
@@ -159,15 +157,11 @@ fn put_unopened(text: &mut [u8], first: &[u8]) -> usize
 }
 
 fn tell_unopened(rt: &HostRuntime, first: &[u8]) {
-    let mut text = [0u8; SAID_ROOM];
-    let n = put_unopened(&mut text, first);
-    streams::say_first(rt, &text, n);
+    say_line(rt, |text| put_unopened(text, first));
 }
 
-fn say_unopened(rt: &HostRuntime, first: &[u8], out: &[u8], n: usize)
-    requires { n ≤ length out.now }
-{
-    if is_unopened(out, n) {
+fn say_unopened(rt: &HostRuntime, first: &[u8], printed: &[u8]) {
+    if is_unopened(printed) {
         tell_unopened(rt, first);
     }
 }
@@ -197,10 +191,11 @@ pub fn after_line(
     requires { n ≤ length out.now }
     ensures { result ≡ pick (tells_refusal (take n out.now)) true refused }
 {
-    if !is_refusal(out, n) {
-        say_unopened(rt, first, out, n);
+    let printed = &out[..n];
+    if !is_refusal(printed) {
+        say_unopened(rt, first, printed);
         return refused;
     }
-    say_refusal(rt, file, score, first, is_grace(out, n));
+    say_refusal(rt, file, score, first, is_grace(printed));
     true
 }

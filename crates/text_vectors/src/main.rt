@@ -3,12 +3,12 @@
 // A case is a byte, 0 for a text to be read, 1 for a file to be written and 2 for a text that is asked, the room's length or the place, the input's length, each a u32, and the input. The second program makes the cases and says what is right.
 #![tactic(auto)]
 
-ghost use Rattle.std.specs.Prelude.{◌<◌, ◌≤◌};
+ghost use Rattle.std.specs.Prelude.{◌≡◌, true, ◌≤◌, length};
 
 use std::fs::File;
 use std::os::fd::AsRawFd;
 use std::rt::HostRuntime;
-use text::{TextError, TextReply};
+use text::TextReply;
 use tokens::Place;
 
 const OUT: i32 = 1;
@@ -23,18 +23,11 @@ const WRITTEN: u8 = 1;
 
 const ASKED: u8 = 2;
 
-fn wide(x: u8) -> usize
-    ensures { result < 256 }
-{
-    x as usize
-}
-
 // The u32 in four bytes, little-endian.
 fn number(head: &[u8; 9], at: usize) -> usize
     requires { at ≤ 5 }
 {
-    let low = wide(head[at]) + 256 * wide(head[at + 1]);
-    low + 65536 * wide(head[at + 2]) + 16777216 * wide(head[at + 3])
+    u32::from_le_bytes([head[at], head[at + 1], head[at + 2], head[at + 3]]) as usize
 }
 
 fn print_figure(n: usize, end: &[u8]) {
@@ -54,23 +47,8 @@ fn print_reply(r: TextReply, room: &[u8]) {
     if room.len() < r.size {
         return;
     }
-    let from = 0;
-    let n = r.size;
-    io::write_all(OUT, &room[from..n]);
+    io::write_all(OUT, &room[..r.size]);
     io::write_all(OUT, b"\n");
-}
-
-// What comes of the input, in so much of the room.
-fn transcribe(write: bool, input: &[u8], room: &mut [u8]) -> Result<usize, TextError> {
-    if write {
-        return writer::write_text(input, room);
-    }
-    reader::read_text(input, room)
-}
-
-fn run_case(write: bool, input: &[u8], room: &mut [u8]) {
-    let t = transcribe(write, input, room);
-    print_reply(text::replied_text(t), room);
 }
 
 // Where a text is refused: its own fault, or what made the byte that the file check names.
@@ -101,28 +79,29 @@ fn run_place(text: &[u8], place: usize, room: &mut [u8]) {
 }
 
 // Fills the first size bytes of buf: false where it has fewer, or where the input ends before.
-fn read_part(fd: i32, buf: &mut [u8], size: usize) -> bool {
+fn read_part(fd: i32, buf: &mut [u8], size: usize) -> bool
+    ensures { result ≡ true → size ≤ length buf.new }
+{
     if buf.len() < size {
         return false;
     }
-    let from = 0;
-    let got = io::read_full(fd, &mut buf[from..size]);
-    got == size
+    io::read_full(fd, &mut buf[..size]) == size
 }
 
-fn run_part(kind: u8, input: &[u8], size: usize, room: &mut [u8], length: usize) {
-    if input.len() < size {
-        return;
-    }
-    let from = 0;
+fn run_part(kind: u8, input: &[u8], room: &mut [u8], length: usize) {
     if kind == ASKED {
-        run_place(&input[from..size], length, room);
+        run_place(input, length, room);
         return;
     }
     if room.len() < length {
         return;
     }
-    run_case(kind == WRITTEN, &input[from..size], &mut room[from..length]);
+    let room = &mut room[..length];
+    let t = match kind {
+        WRITTEN => writer::write_text(input, room),
+        _ => reader::read_text(input, room),
+    };
+    print_reply(text::replied_text(t), room);
 }
 
 // One case from the file: false at its end, or where a case is cut off or longer than there is room for.
@@ -137,7 +116,7 @@ fn run_next(fd: i32, input: &mut [u8], room: &mut [u8]) -> bool {
     if !read_part(fd, input, size) {
         return false;
     }
-    run_part(kind, input, size, room, length);
+    run_part(kind, &input[..size], room, length);
     true
 }
 
@@ -147,12 +126,10 @@ fn run_cases(rt: &HostRuntime, input: &mut [u8], room: &mut [u8]) {
         return;
     };
     let fd = file.as_raw_fd();
-    let mut turns: u32 = 0;
-    while turns < 1000000 {
+    for _ in 0..1000000 {
         if !run_next(fd, input, room) {
             return;
         }
-        turns += 1;
     }
 }
 

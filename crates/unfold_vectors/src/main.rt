@@ -2,7 +2,7 @@
 // A case is the room's length and the input's length, each a u32, and the input. The second program makes the cases and says what is right.
 #![tactic(auto)]
 
-ghost use Rattle.std.specs.Prelude.{◌<◌, ◌≤◌};
+ghost use Rattle.std.specs.Prelude.{◌≡◌, true, ◌≤◌, length};
 
 use std::fs::File;
 use std::os::fd::AsRawFd;
@@ -16,18 +16,11 @@ const INPUT_ROOM: usize = 1500000;
 
 const FILE_ROOM: usize = 262144;
 
-fn wide(x: u8) -> usize
-    ensures { result < 256 }
-{
-    x as usize
-}
-
 // The u32 in four bytes, little-endian.
 fn number(head: &[u8; 8], at: usize) -> usize
     requires { at ≤ 4 }
 {
-    let low = wide(head[at]) + 256 * wide(head[at + 1]);
-    low + 65536 * wide(head[at + 2]) + 16777216 * wide(head[at + 3])
+    u32::from_le_bytes([head[at], head[at + 1], head[at + 2], head[at + 3]]) as usize
 }
 
 fn print_figure(n: usize, end: &[u8]) {
@@ -45,9 +38,7 @@ fn print_reply(r: UnfoldReply, room: &[u8]) {
     if room.len() < r.size {
         return;
     }
-    let from = 0;
-    let n = r.size;
-    io::write_all(OUT, &room[from..n]);
+    io::write_all(OUT, &room[..r.size]);
     io::write_all(OUT, b"\n");
 }
 
@@ -57,24 +48,20 @@ fn run_case(input: &[u8], room: &mut [u8]) {
 }
 
 // Fills the first size bytes of buf: false where it has fewer, or where the input ends before.
-fn read_part(fd: i32, buf: &mut [u8], size: usize) -> bool {
+fn read_part(fd: i32, buf: &mut [u8], size: usize) -> bool
+    ensures { result ≡ true → size ≤ length buf.new }
+{
     if buf.len() < size {
         return false;
     }
-    let from = 0;
-    let got = io::read_full(fd, &mut buf[from..size]);
-    got == size
+    io::read_full(fd, &mut buf[..size]) == size
 }
 
-fn run_part(input: &[u8], size: usize, room: &mut [u8], length: usize) {
-    if input.len() < size {
-        return;
-    }
+fn run_part(input: &[u8], room: &mut [u8], length: usize) {
     if room.len() < length {
         return;
     }
-    let from = 0;
-    run_case(&input[from..size], &mut room[from..length]);
+    run_case(input, &mut room[..length]);
 }
 
 // One case from the file: false at its end, or where a case is cut off or longer than there is room for.
@@ -88,7 +75,7 @@ fn run_next(fd: i32, input: &mut [u8], room: &mut [u8]) -> bool {
     if !read_part(fd, input, size) {
         return false;
     }
-    run_part(input, size, room, length);
+    run_part(&input[..size], room, length);
     true
 }
 
@@ -98,12 +85,10 @@ fn run_cases(rt: &HostRuntime, input: &mut [u8], room: &mut [u8]) {
         return;
     };
     let fd = file.as_raw_fd();
-    let mut turns: u32 = 0;
-    while turns < 1000000 {
+    for _ in 0..1000000 {
         if !run_next(fd, input, room) {
             return;
         }
-        turns += 1;
     }
 }
 

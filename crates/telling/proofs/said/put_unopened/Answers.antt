@@ -3,20 +3,11 @@
 use Rattle.telling.proofs.SaidSteps.{unopened}
 use Rattle.telling.proofs.said.put_unopened.Goals as goal
 
-pub told-n-requires : goal.told-n-requires
-told-n-requires c = search unopened
-
-pub slice_bounds-put_bytes-end : goal.slice_bounds-put_bytes-end
-slice_bounds-put_bytes-end c = search unopened
-
 pub put_bytes-at-requires : goal.put_bytes-at-requires
 put_bytes-at-requires c = search unopened
 
 pub put_bytes-requires : goal.put_bytes-requires
 put_bytes-requires c = search unopened
-
-pub shape_of-text : goal.shape_of-text
-shape_of-text c = search unopened
 
 pub returns : goal.returns
 returns c = search unopened

@@ -3,17 +3,8 @@
 use Rattle.telling.proofs.SaidSteps.{saying}
 use Rattle.telling.proofs.said.put_unwritten.Goals as goal
 
-pub told-n-requires : goal.told-n-requires
-told-n-requires c = search saying
-
-pub slice_bounds-unwritten_line-end : goal.slice_bounds-unwritten_line-end
-slice_bounds-unwritten_line-end c = search saying
-
 pub unwritten_line-requires : goal.unwritten_line-requires
 unwritten_line-requires c = search saying
-
-pub shape_of-text : goal.shape_of-text
-shape_of-text c = search saying
 
 pub returns : goal.returns
 returns c = search saying
