@@ -102,7 +102,14 @@ pub fn unmade_line(out: &mut [u8], name: &[u8], c: Counts, x: Refusal) -> usize
 }
 
 // The line of a text whose file would be refused for what stands at this line and column, from the front of `out`. Answers its length.
-pub fn misfit_line(out: &mut [u8], name: &[u8], p: Place, c: Counts, x: Refusal, h: Option<Hint>) -> usize
+pub fn misfit_line(
+    out: &mut [u8],
+    name: &[u8],
+    p: Place,
+    c: Counts,
+    x: Refusal,
+    h: Option<Hint>,
+) -> usize
     requires { text_line_room + length name.now ≤ length out.old }
     ensures { Laid out.old 0 (misfit_line name.now p c x h) out.new result }
 {
