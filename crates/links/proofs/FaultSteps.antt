@@ -1,13 +1,11 @@
 -- What a call to the system comes to, in the code's own terms: the machine's tests on a signed number's bits decide the cases of the definitions.
 -- Assumes nothing.
-use mathlib.Core.Path.{◌≡◌, refl, ap, ◌∙◌}
-use mathlib.Core.Bool.{Bool, true, false}
+use mathlib.Core.Path.{◌≡◌, refl, ap}
 use Prim.Native.Nat.{zero, suc}
 use native.Mathlib.Omega.{arith}
 use lib.IntN.{ℤ, pos, negsuc, nat_abs}
 use mir.Syntax.{w32}
-use mir.Val.{SFits, of_z, to_z}
-use mir.Facts.{to_z-of_z}
+use mir.Val.{SFits, of_z}
 use borrow.Author.Rules.{rules}
 use Rattle.streams.proofs.CallSteps.{bits-say}
 use Rattle.links.specs.Faults.{reason_of}

@@ -1,11 +1,8 @@
 -- What stands at a path, in the code's own terms.
 -- Assumes nothing.
-use mathlib.Core.Path.{◌≡◌, refl, sym, ap, ◌∙◌}
-use mathlib.Core.Bool.{Bool, false}
-use Prim.Native.Nat.{ℕ, zero, suc, ◌<◌, ◌≤◌}
-use native.Mathlib.Omega.{arith}
+use mathlib.Core.Path.{◌≡◌, refl, ap, ◌∙◌}
+use Prim.Native.Nat.{ℕ}
 use lib.Bits.{bit_and}
-use lib.Dec.{eqb}
 use lib.IntN.{ℤ, pos, negsuc}
 use mir.Syntax.{w32}
 use mir.Val.{SFits, of_z, to_z}
@@ -13,11 +10,9 @@ use mir.Facts.{to_z-of_z}
 use borrow.Author.Tests.{eq-eqb, ne_eqb}
 use borrow.Author.Rules.{rules}
 use Rattle.streams.proofs.CallSteps.{bits-say}
-use Rattle.links.specs.declared.looking.Kind.{Kind}
 use Rattle.links.specs.declared.looking.Kind.TheVariants as kind
 use Rattle.links.specs.Faults.{reason_of}
-use Rattle.links.specs.Looking.{kind_of, unseen_by, way_of, has_bits, unseen_long}
-use Rattle.links.specs.Paths.{longest_path}
+use Rattle.links.specs.Looking.{kind_of, unseen_by}
 
 -- ---- a mode
 

@@ -1,23 +1,19 @@
 -- A row laid in lent bytes, its texts as they are read there, and looking a command up, in the code's own terms.
 -- Assumes nothing.
-use mathlib.Core.Path.{◌≡◌, refl, sym, ap, ◌∙◌}
+use mathlib.Core.Path.{◌≡◌, refl}
 use mathlib.Core.Bool.{Bool, true, false}
-use mathlib.Core.List.{List, ◌∷◌, ◌++◌, append_assoc}
-use Prim.Native.Nat.{ℕ, ◌+◌, ◌-◌, ◌<◌, ◌≤◌}
-use native.Mathlib.Omega.{arith}
-use lib.ListN.{length, take, drop, take-append-drop, drop_of_length-le}
-use lib.Seq.{take-append_seam, drop-append_seam, drop-drop}
+use mathlib.Core.List.{List, ◌∷◌}
+use Prim.Native.Nat.{ℕ, ◌+◌, ◌<◌, ◌≤◌}
+use lib.ListN.{drop, drop_of_length-le}
 use borrow.Author.Rules.{rules}
 use Rattle.std.specs.Prelude.{Option, Some, None}
 use Rattle.std.proofs.Common.{add-one, drop-cons, slice_index_or}
 use Rattle.base.specs.Tests.{pick}
 use Rattle.ascii.specs.Words.{same}
-use Rattle.ascii.specs.Laying.{Laid}
-use Rattle.ascii.proofs.LayLaws.{laid-join}
 use Rattle.menu.specs.declared.Command.{Command}
-use Rattle.menu.specs.declared.Command.TheVariants.{Check, Play, Read, Write, Unfold, Replies, Help}
+use Rattle.menu.specs.declared.Command.TheVariants.{Check}
 use Rattle.menu.specs.declared.table.Entry.{Entry}
-use Rattle.menu.specs.Table.{Row, row_of, commands, count, name_width, usage_width, help_width, named_in, command_named}
+use Rattle.menu.specs.Table.{row_of, commands, count, named_in, command_named}
 use Rattle.menu.specs.Rows.{Holds}
 
 -- ---- a row

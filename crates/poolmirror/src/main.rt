@@ -355,7 +355,7 @@ fn play(
 
 // ---- read, write and unfold
 
-// What can't be written is told.
+// What can't be written is told. A function of its own, as `unread` is: what they differ in is the one call, and a parameter for it would be as long.
 fn unwritten(rt: &HostRuntime, name: &[u8], error: i32) -> Ending {
     telling::say_unwritten(rt, name, error);
     orders::ending_if(false)
@@ -400,9 +400,12 @@ struct Refused {
 
 // What `read`, `write` and `unfold` differ in: what they read, and what they make of it.
 trait Making {
-    // Reads what argument i names.
+    // Reads what argument i names. More than there is room for is told as too large.
     fn read(rt: &HostRuntime, i: usize, name: &[u8], given: &mut [u8]) -> Result<usize, i32>
-        ensures { IfOk result (λ count. count ≤ length given.new) };
+        ensures { IfOk result (λ count. count ≤ length given.new) }
+    {
+        read_whole(rt, i, name, given)
+    }
 
     // Makes what is saved, from the front of the room: how many bytes it has.
     fn make(
@@ -424,10 +427,6 @@ struct Writing;
 struct Unfolding;
 
 impl Making for Reading {
-    fn read(rt: &HostRuntime, i: usize, name: &[u8], given: &mut [u8]) -> Result<usize, i32> {
-        read_whole(rt, i, name, given)
-    }
-
     fn make(
         name: &[u8],
         given: &[u8],
@@ -442,6 +441,7 @@ impl Making for Reading {
 }
 
 impl Making for Writing {
+    // A file that is longer than any score's is refused for its length, by `make`.
     fn read(rt: &HostRuntime, i: usize, name: &[u8], given: &mut [u8]) -> Result<usize, i32> {
         read_named(rt, i, name, given)
     }
@@ -460,10 +460,6 @@ impl Making for Writing {
 }
 
 impl Making for Unfolding {
-    fn read(rt: &HostRuntime, i: usize, name: &[u8], given: &mut [u8]) -> Result<usize, i32> {
-        read_whole(rt, i, name, given)
-    }
-
     fn make(
         name: &[u8],
         given: &[u8],
@@ -552,6 +548,7 @@ fn unfold(rt: &HostRuntime, o: Order) -> Ending {
 
 // ---- words
 
+// `help` and `replies`, a function each: the call that lays the page is all that they differ in, and a parameter for it would be as long.
 fn help(rt: &HostRuntime, out: &mut [u8; LINE_ROOM]) -> Ending {
     let n = menu::help_text(out);
     orders::ending_if(streams::print(rt, out, n))

@@ -14,12 +14,11 @@ use mir.Facts.{to_z-of_z}
 use borrow.Author.Tests.{ne_eqb}
 use borrow.Author.Rules.{rules}
 use Rattle.std.specs.Prelude.{Option, Result, Ok, Err, IfOk}
-use Rattle.std.specs.declared.option.Option.TheVariants as option
 use Rattle.std.specs.Io.{ReadsAtMost}
 use Rattle.std.specs.declared.io.Error.{Error}
 use Rattle.streams.specs.declared.calls.Outcome.{Outcome}
 use Rattle.streams.specs.declared.calls.Outcome.TheVariants as outcome
-use Rattle.streams.specs.Outcomes.{number_of, failure_of, moved_of, outcome_of, got_of, took_of, Some, Within, Gives, Takes}
+use Rattle.streams.specs.Outcomes.{number_of, failure_of, moved_of, outcome_of, got_of, took_of, Within, Gives, Takes}
 
 -- A signed number is what its bits say.
 pub bits-say : (w : Width) (z : ℤ) (n : ℕ) → SFits w z → of_z w z ≡ n → to_z w n ≡ z

@@ -40,6 +40,7 @@ pub fn read_some<R: Read>(
 ) -> Result<Option<usize>, i32>
     ensures { Gives (length buf.old) result }
 {
+    // The tries stand here and in `write_some`: tried as one function over a closure, and that the bytes lie within those lent was lost between the calls.
     for _ in 0..MOST_TRIES {
         let o = try_read(from, buf);
         if !retry(rt, o) {
@@ -64,11 +65,7 @@ fn read_behind<R: Read>(
 }
 
 // Reads until the buffer is full, the input ends or a read fails: how many bytes stand at the buffer's start.
-pub fn read_whole<R: Read>(
-    rt: &impl Clock,
-    from: &mut R,
-    buf: &mut [u8],
-) -> Result<usize, Broken>
+pub fn read_whole<R: Read>(rt: &impl Clock, from: &mut R, buf: &mut [u8]) -> Result<usize, Broken>
     ensures { MatchResult result (λ n. n ≤ length buf.new) (λ b. b.count ≤ length buf.new) }
 {
     // A `while`, since how far a turn gets is the read's answer.

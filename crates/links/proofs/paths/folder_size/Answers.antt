@@ -3,9 +3,6 @@
 use Rattle.links.proofs.PathSteps.{slashes}
 use Rattle.links.proofs.paths.folder_size.Goals as goal
 
-pub loop-n-init : goal.loop-n-init
-loop-n-init c = search slashes
-
 pub returns-then-path-n-eq-SLASH : goal.returns-then-path-n-eq-SLASH
 returns-then-path-n-eq-SLASH c = search slashes
 
