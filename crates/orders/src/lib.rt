@@ -41,6 +41,7 @@ pub struct Names {
 }
 
 // What is ordered so far: the command, its names, how many of them are standard input, the number behind them, 0 where there is none, and whether `--` was passed; `at` is the argument at fault.
+// Each of these stands by its name and its 0 in the laws of an order (`names-placed`, `number-placed`, `fault-decides`), so none is an Option.
 #[derive(Clone, Copy)]
 pub struct Order {
     pub command: Command,

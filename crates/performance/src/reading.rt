@@ -15,7 +15,7 @@ use telling::{after_line, say_unread};
 // More reads than any input lasts for.
 const MOST_READS: u64 = 1000000000000000;
 
-// How far a run has come, and whether the opening was refused.
+// How far a run has come, and whether the opening was refused: that is what the run ends by, and no state of the value beside it.
 #[derive(Clone, Copy)]
 pub struct Run {
     pub progress: Progress,

@@ -525,25 +525,26 @@ fn transcribe<M: Making>(rt: &HostRuntime, o: Order, given: &mut [u8], room: &mu
     transcribe_named::<M>(rt, o, &mut name, &mut saved, given, room, &mut out)
 }
 
-// `read TEXT FILE`. The text's room stands in a function of its own, and so do those of `write` and `unfold`: the length of so long an array is proved by a law, since to count it would be too much.
-fn read(rt: &HostRuntime, o: Order) -> Ending {
-    let mut text = [0u8; TEXT_ROOM];
+// `read TEXT FILE` and `unfold EXTENDED FILE`. The room of what is given stands in a function of its own, and so does that of what `write` makes: the length of so long an array is proved by a law, since to count it would be too much.
+fn transcribe_text<M: Making>(rt: &HostRuntime, o: Order) -> Ending {
+    let mut given = [0u8; TEXT_ROOM];
+    transcribe_file::<M>(rt, o, &mut given)
+}
+
+fn transcribe_file<M: Making>(rt: &HostRuntime, o: Order, given: &mut [u8]) -> Ending {
     let mut room = [0u8; FILE_ROOM];
-    transcribe::<Reading>(rt, o, &mut text, &mut room)
+    transcribe::<M>(rt, o, given, &mut room)
 }
 
 // `write FILE TEXT`
 fn write(rt: &HostRuntime, o: Order) -> Ending {
-    let mut file = [0u8; FILE_ROOM];
     let mut room = [0u8; WRITTEN_ROOM];
-    transcribe::<Writing>(rt, o, &mut file, &mut room)
+    write_into(rt, o, &mut room)
 }
 
-// `unfold EXTENDED FILE`
-fn unfold(rt: &HostRuntime, o: Order) -> Ending {
-    let mut extended = [0u8; TEXT_ROOM];
-    let mut room = [0u8; FILE_ROOM];
-    transcribe::<Unfolding>(rt, o, &mut extended, &mut room)
+fn write_into(rt: &HostRuntime, o: Order, room: &mut [u8]) -> Ending {
+    let mut file = [0u8; FILE_ROOM];
+    transcribe::<Writing>(rt, o, &mut file, room)
 }
 
 // ---- words
@@ -587,9 +588,9 @@ fn carry_out(
     match c {
         Command::Check => check(rt, arg, &mut file, out),
         Command::Play => play(rt, o, arg, &mut list, &mut file, out),
-        Command::Read => read(rt, o),
+        Command::Read => transcribe_text::<Reading>(rt, o),
         Command::Write => write(rt, o),
-        Command::Unfold => unfold(rt, o),
+        Command::Unfold => transcribe_text::<Unfolding>(rt, o),
         Command::Replies => replies(rt, out),
         Command::Help => help(rt, out),
     }

@@ -13,6 +13,7 @@ pub enum Ending {
     Failed,
 }
 
+// A function, and no `From`: that it is one digit is promised here, too, and docs name it.
 pub fn status_of(e: Ending) -> u8
     ensures { (result ≡ status_of e) × (result ≤ 2) }
 {

@@ -7,9 +7,3 @@ use Rattle.poolmirror.proofs.write.Goals as goal
 
 pub slice_bounds-write_into-end : goal.slice_bounds-write_into-end
 slice_bounds-write_into-end c = sym (length-replicate {0} {A = ℕ} 262144 0)
-
-pub write_into-requires : goal.write_into-requires
-write_into-requires c = tt
-
-pub returns : goal.returns
-returns c = tt
