@@ -48,12 +48,7 @@ fn shut(file: File) -> Result<(), SaveError> {
 }
 
 // Some file systems know one mode for all files and let nobody change it: there the file has it all the same.
-fn change_mode(
-    rt: &HostRuntime,
-    part: &[u8],
-    file: &File,
-    bits: u32,
-) -> Result<(), SaveError> {
+fn change_mode(rt: &HostRuntime, part: &[u8], file: &File, bits: u32) -> Result<(), SaveError> {
     let changed = answered(file.set_permissions(Permissions::from_mode(bits)));
     if changed.is_err() && has_permissions(rt, part, bits) {
         return Ok(());
@@ -186,11 +181,7 @@ fn sync_folder(folder: File) -> Result<(), SaveError> {
 }
 
 // Makes the rename safe. A folder that may not be read can't be: the file in it is whole all the same.
-fn settle(
-    rt: &HostRuntime,
-    path: &[u8],
-    renamed: Result<(), SaveError>,
-) -> Result<(), SaveError>
+fn settle(rt: &HostRuntime, path: &[u8], renamed: Result<(), SaveError>) -> Result<(), SaveError>
     requires { renamed ≡ Ok tt }
 {
     match open_folder_of(rt, path) {

@@ -136,9 +136,7 @@ pub fn read_lines<R: Read>(
     for _ in 0..MOST_READS {
         match streams::read_some(rt, input, &mut chunk) {
             Ok(Some(n)) => {
-                s = take_chunk(
-                    rt, file, score, first, mem, room, &chunk[..n], line, s, out,
-                )?;
+                s = take_chunk(rt, file, score, first, mem, room, &chunk[..n], line, s, out)?;
             }
             Ok(None) => return Ok(s),
             Err(error) => return Err(unread(rt, commands, error)),

@@ -37,9 +37,17 @@ fn tell_saved(path: &[u8], saved: Result<(), SaveError>) -> Ending {
     match saved {
         Ok(()) => Ending::Done,
         Err(SaveError::NotMade(error)) => tell(path, b": can't be written: not made, ", error),
-        Err(SaveError::NotWritten(error)) => tell(path, b": can't be written: not written, ", error),
+        Err(SaveError::NotWritten(error)) => tell(
+            path,
+            b": can't be written: not written, ",
+            error,
+        ),
         Err(SaveError::NotSafe(error)) => tell(path, b": can't be written: not made safe, ", error),
-        Err(SaveError::NotRenamed(error)) => tell(path, b": can't be written: not renamed, ", error),
+        Err(SaveError::NotRenamed(error)) => tell(
+            path,
+            b": can't be written: not renamed, ",
+            error,
+        ),
     }
 }
 

@@ -11,9 +11,9 @@ pub returns-then-same : goal.returns-then-same
 returns-then-same c = search reading
 
 pub returns-then-same-2 : goal.returns-then-same-2
-returns-then-same-2 c = 
+returns-then-same-2 c =
     elim c.then-same-2.branch [
-      then-same-2-via-then-same-2 w ↦ is-short-wish _ _ c.if-plain.false _ c.same.ensures c.if-same.false _ c.same-2.ensures w.if-same-2.true
+      | then-same-2-via-then-same-2 w ↦ is-short-wish _ _ c.if-plain.false _ c.same.ensures c.if-same.false _ c.same-2.ensures w.if-same-2.true
       | then-same-2-via-else-same-2+then-same-3 w ↦ is-long-wish _ _ c.if-plain.false _ c.same.ensures c.if-same.false _ c.same-2.ensures w.if-same-2.false _ w.same-else-same-2.ensures w.if-same-3.true
     ]
 
