@@ -17,7 +17,7 @@ use Rattle.ascii.specs.Numbers.{is_digit}
 use Rattle.ascii.proofs.WordSteps.{drop-next}
 use Rattle.tokens.specs.declared.Token.{Token}
 use Rattle.tokens.specs.Bytes.{slash}
-use Rattle.tokens.specs.Tokens.{left_by, Read, got, stop, number}
+use Rattle.tokens.specs.Tokens.{left_by, Read, got, number}
 use Rattle.tokens.specs.Beats.{field, beats}
 use Rattle.tokens.specs.Asked.{as_read, Reads}
 use Rattle.tokens.proofs.ShorterLaws.{read-got, reads-within}

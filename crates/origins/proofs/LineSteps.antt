@@ -1,16 +1,13 @@
 -- What a line that was found makes and where its token stands, in the code's own terms; and that it is what the line itself makes.
 -- Assumes nothing.
 use Rattle.std.specs.Prelude.{Result, Ok, Err}
-use mathlib.Core.Path.{◌≡◌, refl, sym, ap, ◌∙◌}
-use mathlib.Core.Bool.{Bool, true, false}
+use mathlib.Core.Path.{◌≡◌, refl, sym, ◌∙◌}
 use mathlib.Core.List.{List}
 use Prim.Native.Nat.{ℕ, ◌≤◌}
 use lib.ListN.{length, drop}
 use borrow.Author.Rules.{rules}
-use Rattle.base.specs.Tests.{pick}
-use Rattle.contents.specs.declared.Counts.{Counts}
 use Rattle.tokens.specs.declared.Token.{Token}
-use Rattle.tokens.specs.Tokens.{left_by, Read, got, stop, blanks, number}
+use Rattle.tokens.specs.Tokens.{left_by, got, stop, blanks, number}
 use Rattle.tokens.specs.Asked.{Reads, Passes}
 use Rattle.tokens.proofs.ShorterLaws.{read-got, read-stop, reads-within, fault-within}
 use Rattle.text.specs.Words.{any_number}

@@ -7,7 +7,6 @@ use mathlib.Core.List.{List}
 use Prim.Native.Nat.{ℕ, ◌+◌, ◌-◌, ◌<◌, ◌≤◌}
 use native.Mathlib.Omega.{arith}
 use lib.ListN.{length, drop, length-drop}
-use borrow.Author.Rules.{rules}
 use Rattle.base.specs.Tests.{pick}
 use Rattle.tokens.specs.Tokens.{got, stop, blanks}
 use Rattle.tokens.specs.Asked.{Passes}

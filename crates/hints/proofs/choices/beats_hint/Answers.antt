@@ -4,25 +4,13 @@ use Rattle.hints.specs.Asked.{beats_hint}
 use Rattle.hints.proofs.ChoiceSteps.{choosing}
 use Rattle.hints.proofs.choices.beats_hint.Goals as goal
 
-pub is_decimal-requires : goal.is_decimal-requires
-unfolding beats_hint
-is_decimal-requires c = search choosing
-
 pub returns-then-is_decimal : goal.returns-then-is_decimal
 unfolding beats_hint
 returns-then-is_decimal c = search choosing
 
-pub is_mixed-requires : goal.is_mixed-requires
-unfolding beats_hint
-is_mixed-requires c = search choosing
-
 pub returns-then-is_mixed : goal.returns-then-is_mixed
 unfolding beats_hint
 returns-then-is_mixed c = search choosing
-
-pub is_uneven-requires : goal.is_uneven-requires
-unfolding beats_hint
-is_uneven-requires c = search choosing
 
 pub returns-then-is_uneven : goal.returns-then-is_uneven
 unfolding beats_hint

@@ -4,33 +4,17 @@ use Rattle.hints.specs.Asked.{word_hint}
 use Rattle.hints.proofs.ChoiceSteps.{choosing}
 use Rattle.hints.proofs.choices.word_hint.Goals as goal
 
-pub is_group_word-requires : goal.is_group_word-requires
-unfolding word_hint
-is_group_word-requires c = search choosing
-
 pub returns-then-is_group_word : goal.returns-then-is_group_word
 unfolding word_hint
 returns-then-is_group_word c = search choosing
-
-pub is_word-requires : goal.is_word-requires
-unfolding word_hint
-is_word-requires c = search choosing
 
 pub returns-then-is_word : goal.returns-then-is_word
 unfolding word_hint
 returns-then-is_word c = search choosing
 
-pub is_word-requires-2 : goal.is_word-requires-2
-unfolding word_hint
-is_word-requires-2 c = search choosing
-
 pub returns-then-is_word-2 : goal.returns-then-is_word-2
 unfolding word_hint
 returns-then-is_word-2 c = search choosing
-
-pub beats_hint-requires : goal.beats_hint-requires
-unfolding word_hint
-beats_hint-requires c = search choosing
 
 pub returns : goal.returns
 unfolding word_hint

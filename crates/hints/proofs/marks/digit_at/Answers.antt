@@ -5,12 +5,3 @@ use Rattle.hints.proofs.marks.digit_at.Goals as goal
 
 pub returns-then-text-at : goal.returns-then-text-at
 returns-then-text-at c = search decimals
-
-pub bounds-text-at : goal.bounds-text-at
-bounds-text-at c = search decimals
-
-pub is_digit-requires : goal.is_digit-requires
-is_digit-requires c = search decimals
-
-pub returns : goal.returns
-returns c = search decimals

@@ -6,29 +6,14 @@ use Rattle.hints.proofs.marks.is_decimal.Goals as goal
 pub returns-then-at-lt1 : goal.returns-then-at-lt1
 returns-then-at-lt1 c = search decimals
 
-pub digit_at-requires : goal.digit_at-requires
-digit_at-requires c = search decimals
-
 pub returns-then-not-digit_at : goal.returns-then-not-digit_at
 returns-then-not-digit_at c = search decimals
 
 pub returns-then-text-at : goal.returns-then-text-at
 returns-then-text-at c = search decimals
 
-pub bounds-text-at : goal.bounds-text-at
-bounds-text-at c = search decimals
-
-pub is_point-requires : goal.is_point-requires
-is_point-requires c = search decimals
-
 pub returns-then-not-is_point : goal.returns-then-not-is_point
 returns-then-not-is_point c = search decimals
-
-pub overflow_add-at : goal.overflow_add-at
-overflow_add-at c = search decimals
-
-pub digit_at-requires-2 : goal.digit_at-requires-2
-digit_at-requires-2 c = search decimals
 
 pub returns : goal.returns
 returns c = search decimals

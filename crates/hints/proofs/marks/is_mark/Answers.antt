@@ -6,8 +6,5 @@ use Rattle.hints.proofs.marks.is_mark.Goals as goal
 pub returns-then-at-ne0 : goal.returns-then-at-ne0
 returns-then-at-ne0 c = search fronts
 
-pub begins-requires : goal.begins-requires
-begins-requires c = search fronts
-
 pub returns : goal.returns
 returns c = search fronts

@@ -3,8 +3,5 @@
 use Rattle.hints.proofs.TableLaws.{rows}
 use Rattle.hints.proofs.table.put_hint.Goals as goal
 
-pub returns-in-Some : goal.returns-in-Some
-returns-in-Some c = search rows
-
 pub returns-in-None : goal.returns-in-None
 returns-in-None c = search rows

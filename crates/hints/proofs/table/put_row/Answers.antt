@@ -2,48 +2,8 @@
 -- Assumes nothing.
 use Rattle.std.proofs.Common.{refl}
 use Rattle.hints.specs.Hints.{hint_words}
-use Rattle.hints.proofs.TableLaws.{rows, hint-case}
+use Rattle.hints.proofs.TableLaws.{hint-case}
 use Rattle.hints.proofs.table.put_row.Goals as goal
-
-pub put_bytes-requires : goal.put_bytes-requires
-unfolding hint_words
-put_bytes-requires c = search rows
-
-pub put_bytes-requires-in-Capitals : goal.put_bytes-requires-in-Capitals
-unfolding hint_words
-put_bytes-requires-in-Capitals c = search rows
-
-pub put_bytes-requires-in-NoList : goal.put_bytes-requires-in-NoList
-unfolding hint_words
-put_bytes-requires-in-NoList c = search rows
-
-pub put_bytes-requires-in-WordOrder : goal.put_bytes-requires-in-WordOrder
-unfolding hint_words
-put_bytes-requires-in-WordOrder c = search rows
-
-pub put_bytes-requires-in-InnerPart : goal.put_bytes-requires-in-InnerPart
-unfolding hint_words
-put_bytes-requires-in-InnerPart c = search rows
-
-pub put_bytes-requires-in-InnerEvent : goal.put_bytes-requires-in-InnerEvent
-unfolding hint_words
-put_bytes-requires-in-InnerEvent c = search rows
-
-pub put_bytes-requires-in-Decimal : goal.put_bytes-requires-in-Decimal
-unfolding hint_words
-put_bytes-requires-in-Decimal c = search rows
-
-pub put_bytes-requires-in-Mixed : goal.put_bytes-requires-in-Mixed
-unfolding hint_words
-put_bytes-requires-in-Mixed c = search rows
-
-pub put_bytes-requires-in-Uneven : goal.put_bytes-requires-in-Uneven
-unfolding hint_words
-put_bytes-requires-in-Uneven c = search rows
-
-pub put_bytes-requires-in-PastList : goal.put_bytes-requires-in-PastList
-unfolding hint_words
-put_bytes-requires-in-PastList c = search rows
 
 pub returns-in-ByteOrderMark : goal.returns-in-ByteOrderMark
 unfolding hint_words

@@ -4,49 +4,25 @@ use Rattle.hints.specs.Hints.{all_words}
 use Rattle.hints.proofs.WordSteps.{words}
 use Rattle.hints.proofs.words.is_any_word.Goals as goal
 
-pub is_word-requires : goal.is_word-requires
-unfolding all_words
-is_word-requires c = search words
-
 pub returns-then-is_word : goal.returns-then-is_word
 unfolding all_words
 returns-then-is_word c = search words
-
-pub is_word-requires-2 : goal.is_word-requires-2
-unfolding all_words
-is_word-requires-2 c = search words
 
 pub returns-then-is_word-2 : goal.returns-then-is_word-2
 unfolding all_words
 returns-then-is_word-2 c = search words
 
-pub is_word-requires-3 : goal.is_word-requires-3
-unfolding all_words
-is_word-requires-3 c = search words
-
 pub returns-then-is_word-3 : goal.returns-then-is_word-3
 unfolding all_words
 returns-then-is_word-3 c = search words
-
-pub is_word-requires-4 : goal.is_word-requires-4
-unfolding all_words
-is_word-requires-4 c = search words
 
 pub returns-then-is_word-4 : goal.returns-then-is_word-4
 unfolding all_words
 returns-then-is_word-4 c = search words
 
-pub is_word-requires-5 : goal.is_word-requires-5
-unfolding all_words
-is_word-requires-5 c = search words
-
 pub returns-then-is_word-5 : goal.returns-then-is_word-5
 unfolding all_words
 returns-then-is_word-5 c = search words
-
-pub is_group_word-requires : goal.is_group_word-requires
-unfolding all_words
-is_group_word-requires c = search words
 
 pub returns : goal.returns
 unfolding all_words

@@ -6,8 +6,5 @@ use Rattle.script.proofs.grammar.is_over.Goals as goal
 pub returns-then-at-text : goal.returns-then-at-text
 returns-then-at-text c = search endings
 
-pub may_end-requires : goal.may_end-requires
-may_end-requires c = search endings
-
 pub returns : goal.returns
 returns c = search endings

@@ -3,18 +3,6 @@
 use Rattle.script.proofs.GrammarSteps.{endings}
 use Rattle.script.proofs.grammar.may_end.Goals as goal
 
-pub enum_told-1 : goal.enum_told-1
-enum_told-1 c = search endings
-
-pub enum_told-in-Listing : goal.enum_told-in-Listing
-enum_told-in-Listing c = search endings
-
-pub enum_told-in-Timed : goal.enum_told-in-Timed
-enum_told-in-Timed c = search endings
-
-pub enum_known-stage : goal.enum_known-stage
-enum_known-stage c = search endings
-
 pub returns-in-Start : goal.returns-in-Start
 returns-in-Start c = search endings
 

@@ -3,18 +3,6 @@
 use Rattle.script.proofs.StageSteps.{deepening}
 use Rattle.script.proofs.stages.deeper.Goals as goal
 
-pub enum_told-1 : goal.enum_told-1
-enum_told-1 c = search deepening
-
-pub enum_told-in-Listing : goal.enum_told-in-Listing
-enum_told-in-Listing c = search deepening
-
-pub enum_told-in-Timed : goal.enum_told-in-Timed
-enum_told-in-Timed c = search deepening
-
-pub enum_known-stage : goal.enum_known-stage
-enum_known-stage c = search deepening
-
 pub overflow_add-result : goal.overflow_add-result
 overflow_add-result c = search deepening
 

@@ -3,20 +3,8 @@
 use Rattle.script.proofs.StageSteps.{furthering}
 use Rattle.script.proofs.stages.further.Goals as goal
 
-pub enum_told-1 : goal.enum_told-1
-enum_told-1 c = search furthering
-
-pub enum_known-stage : goal.enum_known-stage
-enum_known-stage c = search furthering
-
 pub overflow_add-result : goal.overflow_add-result
 overflow_add-result c = search furthering
-
-pub enum_told-in-Timed : goal.enum_told-in-Timed
-enum_told-in-Timed c = search furthering
-
-pub enum_told-in-Playing : goal.enum_told-in-Playing
-enum_told-in-Playing c = search furthering
 
 pub returns-in-Start : goal.returns-in-Start
 returns-in-Start c = search furthering

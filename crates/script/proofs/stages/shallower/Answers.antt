@@ -3,18 +3,6 @@
 use Rattle.script.proofs.StageSteps.{shallowing}
 use Rattle.script.proofs.stages.shallower.Goals as goal
 
-pub enum_told-1 : goal.enum_told-1
-enum_told-1 c = search shallowing
-
-pub enum_told-in-Listing : goal.enum_told-in-Listing
-enum_told-in-Listing c = search shallowing
-
-pub enum_told-in-Timed : goal.enum_told-in-Timed
-enum_told-in-Timed c = search shallowing
-
-pub enum_known-stage : goal.enum_known-stage
-enum_known-stage c = search shallowing
-
 pub returns-then-depth-lt1 : goal.returns-then-depth-lt1
 returns-then-depth-lt1 c = search shallowing
 

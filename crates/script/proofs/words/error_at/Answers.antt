@@ -3,26 +3,14 @@
 use Rattle.script.proofs.WordSteps.{errors}
 use Rattle.script.proofs.words.error_at.Goals as goal
 
-pub is_word-requires : goal.is_word-requires
-is_word-requires c = search errors depth 10
-
 pub returns-then-is_word : goal.returns-then-is_word
 returns-then-is_word c = search errors depth 10
-
-pub is_word-requires-2 : goal.is_word-requires-2
-is_word-requires-2 c = search errors depth 10
 
 pub returns-then-is_word-2 : goal.returns-then-is_word-2
 returns-then-is_word-2 c = search errors depth 10
 
-pub is_word-requires-3 : goal.is_word-requires-3
-is_word-requires-3 c = search errors depth 10
-
 pub returns-then-is_word-3 : goal.returns-then-is_word-3
 returns-then-is_word-3 c = search errors depth 10
-
-pub is_word-requires-4 : goal.is_word-requires-4
-is_word-requires-4 c = search errors depth 10
 
 pub returns-then-is_word-4 : goal.returns-then-is_word-4
 returns-then-is_word-4 c = search errors depth 10

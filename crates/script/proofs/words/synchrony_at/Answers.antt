@@ -3,14 +3,8 @@
 use Rattle.script.proofs.WordSteps.{synchronies}
 use Rattle.script.proofs.words.synchrony_at.Goals as goal
 
-pub is_word-requires : goal.is_word-requires
-is_word-requires c = search synchronies
-
 pub returns-then-is_word : goal.returns-then-is_word
 returns-then-is_word c = search synchronies
-
-pub is_word-requires-2 : goal.is_word-requires-2
-is_word-requires-2 c = search synchronies
 
 pub returns-then-is_word-2 : goal.returns-then-is_word-2
 returns-then-is_word-2 c = search synchronies
