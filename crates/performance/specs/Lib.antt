@@ -1,2 +1,3 @@
--- When a performance has been refused, and how it ends.
+-- When a performance has been refused, how far it has come, and how it ends.
 pub mod Refused
+pub mod Runs

@@ -74,6 +74,6 @@ pub fn perform<R: Read>(
     );
     match read {
         Ok(s) => finish(rt, file, score, first, mem, room, &line, s, out),
-        Err(ending) => ending,
+        Err(_) => Ending::Failed,
     }
 }

@@ -1,15 +1,15 @@
 // The input, chunk by chunk: its lines are carried out and what they print is written.
-ghost use Rattle.std.specs.Prelude.{◌≡◌, ◌+◌, ◌≤◌, length, drop, IfOk};
+ghost use Rattle.std.specs.Prelude.{◌≡◌, ◌+◌, ◌≤◌, length, drop, IfOk, MatchResult};
 ghost use Rattle.lines.specs.Input.{kept_bytes};
 ghost use Rattle.playing.specs.Inner.{Asked, output_room};
 ghost use Rattle.chunks.specs.Reading.{bytes_read};
 ghost use Rattle.chunks.specs.Inner.{reading_of, Going, WentOn};
 ghost use Rattle.performance.specs.Refused.{refused_after};
+ghost use Rattle.performance.specs.Runs.{Came};
 
 use chunks::{Progress, Step};
 use std::io::Read;
 use std::rt::HostRuntime;
-use streams::Ending;
 use telling::{after_line, say_unread};
 
 // More reads than any input lasts for.
@@ -29,7 +29,7 @@ struct Turn {
     refused: bool,
 }
 
-// Reads on in the chunk, and prints what the line that ended has laid out. Where that can't be written, the run has failed.
+// Reads on in the chunk, and prints what the line that ended has laid out. Where that can't be written, the run has failed: the step that was made all the same.
 fn take_line(
     rt: &HostRuntime,
     file: &[u8],
@@ -43,22 +43,23 @@ fn take_line(
     p: Progress,
     refused: bool,
     out: &mut [u8],
-) -> Result<Turn, Ending>
+) -> Result<Turn, Step>
     requires { Going file.now chunk.now at line.old p out.old }
-    ensures { IfOk result (λ turn. WentOn file.now chunk.now at mem.old room.old line.old p out.old
-        mem.new room.new line.new out.new turn.step
-        × (turn.refused
-        ≡ refused_after file.now (reading_of mem.old room.old line.old p) (drop at chunk.now) refused)) }
+    ensures went { MatchResult result
+        (λ turn. WentOn file.now chunk.now at mem.old room.old line.old p out.old mem.new room.new line.new out.new turn.step)
+        (λ step. WentOn file.now chunk.now at mem.old room.old line.old p out.old mem.new room.new line.new out.new step) }
+    ensures told { IfOk result (λ turn. turn.refused
+        ≡ refused_after file.now (reading_of mem.old room.old line.old p) (drop at chunk.now) refused) }
 {
     let step = chunks::go_on(file, mem, room, chunk, at, line, p, out);
     if !streams::print(rt, out, step.count) {
-        return Err(Ending::Failed);
+        return Err(step);
     }
     let refused = after_line(rt, file, score, first, out, step.count, refused);
     Ok(Turn { step, refused })
 }
 
-// The lines that end in a chunk of the input are carried out, and the start of the next is kept.
+// The lines that end in a chunk of the input are carried out, and the start of the next is kept. `Err` is a run that has failed, as far as it came.
 fn take_chunk(
     rt: &HostRuntime,
     file: &[u8],
@@ -70,23 +71,30 @@ fn take_chunk(
     line: &mut [u8],
     s: Run,
     out: &mut [u8],
-) -> Result<Run, Ending>
+) -> Result<Run, Run>
     requires { Going file.now chunk.now 0 line.old s.progress out.old }
-    ensures { IfOk result (λ run. (run.progress.have ≤ kept_bytes)
-        × (run.progress.lines ≤ s.progress.lines + length chunk.now)
-        × (run.progress.grace ≡ s.progress.grace)
-        × Asked file.now run.progress.opened out.new
-        × (reading_of mem.new room.new line.new run.progress
-        ≡ (bytes_read file.now (reading_of mem.old room.old line.old s.progress) chunk.now).reading)) }
+    ensures came { MatchResult result
+        (λ run. Came file.now s.progress.grace (s.progress.lines + length chunk.now) run.progress out.new)
+        (λ run. Came file.now s.progress.grace (s.progress.lines + length chunk.now) run.progress out.new) }
+    ensures read { IfOk result (λ run. reading_of mem.new room.new line.new run.progress
+        ≡ (bytes_read file.now (reading_of mem.old room.old line.old s.progress) chunk.now).reading) }
 {
     // A `while`, since where a line ends is what reading on answers.
     let mut at = 0;
     let mut p = s.progress;
     let mut refused = s.refused;
     while at < chunk.len() {
-        let turn = take_line(
+        let turn = match take_line(
             rt, file, score, first, mem, room, chunk, at, line, p, refused, out,
-        )?;
+        ) {
+            Ok(turn) => turn,
+            Err(step) => {
+                return Err(Run {
+                    progress: step.progress,
+                    refused,
+                });
+            }
+        };
         at = turn.step.next;
         p = turn.step.progress;
         refused = turn.refused;
@@ -97,13 +105,7 @@ fn take_chunk(
     })
 }
 
-// What the commands can't be read for is told, and the run has failed.
-fn unread(rt: &HostRuntime, commands: &[u8], error: i32) -> Ending {
-    say_unread(rt, commands, error);
-    Ending::Failed
-}
-
-// The lines that end before the input does, and the start of what is left.
+// The lines that end before the input does, and the start of what is left. `Err` is a run that has failed, as far as it came.
 pub fn read_lines<R: Read>(
     rt: &HostRuntime,
     file: &[u8],
@@ -116,12 +118,11 @@ pub fn read_lines<R: Read>(
     room: &mut [u64],
     line: &mut [u8],
     out: &mut [u8],
-) -> Result<Run, Ending>
+) -> Result<Run, Run>
     requires { (kept_bytes ≤ length line.old) × (output_room ≤ length out.old) }
-    ensures { IfOk result (λ run. (run.progress.have ≤ kept_bytes)
-        × (run.progress.lines ≤ 5000000000000000000)
-        × (run.progress.grace ≡ grace)
-        × Asked file.now run.progress.opened out.new) }
+    ensures { MatchResult result
+        (λ run. Came file.now grace 5000000000000000000 run.progress out.new)
+        (λ run. Came file.now grace 5000000000000000000 run.progress out.new) }
 {
     let mut chunk = [0u8; 4096];
     let mut s = Run {
@@ -139,7 +140,10 @@ pub fn read_lines<R: Read>(
                 s = take_chunk(rt, file, score, first, mem, room, &chunk[..n], line, s, out)?;
             }
             Ok(None) => return Ok(s),
-            Err(error) => return Err(unread(rt, commands, error)),
+            Err(error) => {
+                say_unread(rt, commands, error);
+                return Err(s);
+            }
         }
     }
     Ok(s)
