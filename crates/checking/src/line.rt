@@ -1,7 +1,6 @@
 // The line that `check` prints for a file.
 ghost use Rattle.std.specs.Prelude.{◌+◌, ◌≤◌, length};
 ghost use Rattle.ascii.specs.Laying.{Laid};
-ghost use Rattle.score.specs.File.{Accepted};
 ghost use Rattle.checking.specs.Checked.{counts_told, accepted_line, CheckTold, check_room};
 ghost use Rattle.checking.specs.Inner.{counts_room};
 
@@ -10,7 +9,7 @@ use crate::run::put_count;
 use crate::tallies::action_count;
 use ascii::{NEWLINE, put_byte, put_bytes};
 use refusals::refusal_line;
-use score::{check_file, event_count, item_count, message_count};
+use score::{AcceptedFile, check_file, event_count, item_count, message_count};
 use session::Refusal;
 
 // How long a file's line is, and whether the file was accepted. No Result: either way there is a line.
@@ -20,15 +19,15 @@ pub struct Checked {
     pub accepted: bool,
 }
 
-// How much of everything an accepted file has, behind the first `at` bytes. Accepted by a clause here, as the functions of score ask for it.
-fn put_counts(out: &mut [u8], at: usize, file: &[u8]) -> usize
-    requires { Accepted file.now × (at + counts_room ≤ length out.old) }
-    ensures { Laid out.old at (counts_told file.now) out.new result × (result ≤ at + counts_room) }
+// How much of everything an accepted file has, behind the first `at` bytes.
+fn put_counts(out: &mut [u8], at: usize, file: AcceptedFile<'_>) -> usize
+    requires { at + counts_room ≤ length out.old }
+    ensures { Laid out.old at (counts_told file.entry.bytes.now) out.new result × (result ≤ at + counts_room) }
 {
-    let events = event_count(file);
-    let items = item_count(file);
-    let actions = action_count(file);
-    let messages = message_count(file);
+    let events = event_count(file.bytes);
+    let items = item_count(file.bytes);
+    let actions = action_count(file.bytes);
+    let messages = message_count(file.bytes);
     let at = put_count(out, at, events as u64, b" events, ");
     let at = put_count(out, at, items as u64, b" items, ");
     let at = put_count(out, at, actions as u64, b" actions, ");
@@ -36,9 +35,9 @@ fn put_counts(out: &mut [u8], at: usize, file: &[u8]) -> usize
 }
 
 // The line of an accepted file from the front of `out`. Answers its length.
-fn accepted_line(out: &mut [u8], name: &[u8], file: &[u8]) -> usize
-    requires { Accepted file.now × (check_room + length name.now ≤ length out.old) }
-    ensures { Laid out.old 0 (accepted_line name.now file.now) out.new result }
+fn accepted_line(out: &mut [u8], name: &[u8], file: AcceptedFile<'_>) -> usize
+    requires { check_room + length name.now ≤ length out.old }
+    ensures { Laid out.old 0 (accepted_line name.now file.entry.bytes.now) out.new result }
 {
     let named = put_bytes(out, 0, name);
     let at = put_bytes(out, named, b": accepted, ");
@@ -54,7 +53,7 @@ pub fn check_line(out: &mut [u8], name: &[u8], file: &[u8]) -> Checked
 {
     match check_file(file) {
         Ok(()) => Checked {
-            count: accepted_line(out, name, file),
+            count: accepted_line(out, name, AcceptedFile { bytes: file }),
             accepted: true,
         },
         Err(x) => Checked {

@@ -3,7 +3,6 @@ ghost use Rattle.std.specs.Prelude.{◌+◌, ◌*◌, ◌≤◌, length};
 ghost use Rattle.ascii.specs.Decimals.{most_places};
 ghost use Rattle.ascii.specs.Laying.{Laid};
 ghost use Rattle.contents.specs.Limits.{last_part};
-ghost use Rattle.score.specs.File.{Accepted};
 ghost use Rattle.score.specs.Piece.{decode};
 ghost use Rattle.checking.specs.Tallies.{parts_in};
 ghost use Rattle.checking.specs.Checked.{parts_told};
@@ -11,6 +10,7 @@ ghost use Rattle.checking.specs.Inner.{part_words, marks_told, part_count, part_
 
 use crate::tallies::{PARTS, mark_parts};
 use ascii::{SPACE, put_byte, put_bytes, put_number};
+use score::AcceptedFile;
 
 // One part behind the first `at` bytes, where it has a mark.
 fn put_part(out: &mut [u8], at: usize, part: usize, mark: u8) -> usize
@@ -37,9 +37,9 @@ fn put_marked(out: &mut [u8], at: usize, marks: &[u8; PARTS]) -> usize
 }
 
 // The parts that the score's items have, or that there are none.
-pub fn put_parts(out: &mut [u8], at: usize, file: &[u8]) -> usize
-    requires { Accepted file.now × (at + parts_room ≤ length out.old) }
-    ensures { Laid out.old at (parts_told (parts_in (decode file.now).items)) out.new result × (result ≤ at + part_room * part_count) }
+pub fn put_parts(out: &mut [u8], at: usize, file: AcceptedFile<'_>) -> usize
+    requires { at + parts_room ≤ length out.old }
+    ensures { Laid out.old at (parts_told (parts_in (decode file.entry.bytes.now).items)) out.new result × (result ≤ at + part_room * part_count) }
 {
     let mut marks = [0u8; PARTS];
     mark_parts(file, &mut marks);

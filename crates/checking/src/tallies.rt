@@ -8,7 +8,7 @@ ghost use Rattle.checking.specs.Tallies.{actions_in};
 ghost use Rattle.checking.specs.Inner.{marked};
 
 use page::Item;
-use score::{item_count, read_item};
+use score::{AcceptedFile, item_count, read_item};
 
 // There are 16 parts.
 pub const PARTS: usize = 16;
@@ -23,6 +23,7 @@ fn own(i: Item) -> usize
     0
 }
 
+// Bytes and no AcceptedFile, since it is public, and its clause stays as callers know it.
 pub fn action_count(file: &[u8]) -> usize
     requires { Accepted file.now }
     ensures { (result ≡ actions_in (decode file.now).items) × (result ≤ most_actions) }
@@ -35,12 +36,11 @@ pub fn action_count(file: &[u8]) -> usize
 }
 
 // Marks the part of each item, in one pass.
-pub fn mark_parts(file: &[u8], marks: &mut [u8; PARTS])
-    requires { Accepted file.now }
-    ensures { marks.new ≡ marked marks.old (decode file.now).items }
+pub fn mark_parts(file: AcceptedFile<'_>, marks: &mut [u8; PARTS])
+    ensures { marks.new ≡ marked marks.old (decode file.entry.bytes.now).items }
 {
-    for p in 0..item_count(file) {
-        let i = read_item(file, p);
+    for p in 0..item_count(file.bytes) {
+        let i = read_item(file.bytes, p);
         marks[i.part] = 1;
     }
 }

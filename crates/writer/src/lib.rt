@@ -3,13 +3,12 @@
 
 ghost use Rattle.std.specs.Prelude.{◌≡◌, length};
 ghost use Rattle.score.specs.Piece.{decode};
-ghost use Rattle.score.specs.File.{Accepted};
 ghost use Rattle.text.specs.Written.{written};
 ghost use Rattle.text.specs.Transcripts.{fitted, write_answer, room_left};
 
 use ascii::put_bytes;
 use pages::put_text;
-use score::check_file;
+use score::{AcceptedFile, check_file};
 use text::TextError;
 
 mod fractions;
@@ -34,10 +33,9 @@ fn put_whole(text: &[u8], room: &mut [u8]) -> Result<usize, TextError>
 }
 
 // The text is made in an array of its own: how long it is, is known when it stands there.
-fn write_accepted(file: &[u8], room: &mut [u8]) -> Result<usize, TextError>
-    requires { Accepted file.now }
-    ensures value { result ≡ fitted (length room.old) (written (decode file.now)) }
-    ensures room_after { room.new ≡ room_left result (written (decode file.now)) room.old }
+fn write_accepted(file: AcceptedFile<'_>, room: &mut [u8]) -> Result<usize, TextError>
+    ensures value { result ≡ fitted (length room.old) (written (decode file.entry.bytes.now)) }
+    ensures room_after { room.new ≡ room_left result (written (decode file.entry.bytes.now)) room.old }
 {
     let mut text = [0u8; TEXT_ROOM];
     let size = put_text(file, &mut text);
@@ -50,5 +48,5 @@ pub fn write_text(file: &[u8], room: &mut [u8]) -> Result<usize, TextError>
     ensures room_after { room.new ≡ room_left result (written (decode file.now)) room.old }
 {
     check_file(file)?;
-    write_accepted(file, room)
+    write_accepted(AcceptedFile { bytes: file }, room)
 }

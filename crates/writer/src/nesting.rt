@@ -4,47 +4,46 @@ ghost use Rattle.std.specs.Prelude.{[], ◌+◌, ◌≤◌, length, get_or};
 ghost use Rattle.ascii.specs.Laying.{Laid};
 ghost use Rattle.contents.specs.Limits.{longest};
 ghost use Rattle.score.specs.Piece.{decode};
-ghost use Rattle.score.specs.File.{Accepted};
 ghost use Rattle.writer.specs.Phrases.{send_line};
 ghost use Rattle.writer.specs.Layouts.{Layable, items_text};
 
 use crate::phrases::{put_close, put_group, put_send};
-use score::{accepted_label, read_item};
+use score::{AcceptedFile, accepted_label, read_item};
 
 // An action's line, with its label's own bytes.
 fn put_action(
-    file: &[u8],
+    file: AcceptedFile<'_>,
     delay: u64,
     number: u64,
     depth: usize,
     out: &mut [u8],
     at: usize,
 ) -> usize
-    requires { Accepted file.now × (delay ≤ longest) × (at + length (send_line depth delay number (get_or (decode file.now).labels number [])) ≤ length out.old) }
-    ensures { Laid out.old at (send_line depth delay number (get_or (decode file.now).labels number [])) out.new result }
+    requires { (delay ≤ longest) × (at + length (send_line depth delay number (get_or (decode file.bytes.now).labels number [])) ≤ length out.old) }
+    ensures { Laid out.old at (send_line depth delay number (get_or (decode file.entry.bytes.now).labels number [])) out.new result }
 {
-    let label = accepted_label(file, number);
+    let label = accepted_label(file.bytes, number);
     put_send(out, at, depth, delay, number, label)
 }
 
 // The `count` items from the page place `from` on, and all within them.
 pub fn put_items(
-    file: &[u8],
+    file: AcceptedFile<'_>,
     from: usize,
     count: usize,
     depth: usize,
     out: &mut [u8],
     at: usize,
 ) -> usize
-    requires { Layable file.now from count depth out.old at }
-    ensures { Laid out.old at (items_text (decode file.now) from count depth) out.new result }
+    requires { Layable file.bytes.now from count depth out.old at }
+    ensures { Laid out.old at (items_text (decode file.entry.bytes.now) from count depth) out.new result }
 {
     let mut i = from;
     let mut left = count;
     let mut next = at;
     // A `while`: a step passes an item with all that stand within it, and how many they are is what is read.
     while 0 < left {
-        let item = read_item(file, i);
+        let item = read_item(file.bytes, i);
         let last = item.last;
         if item.kind == 0 {
             next = put_action(file, item.delay.0, last as u64, depth, out, next);

@@ -10,8 +10,7 @@ pub slice_bounds-put_text-end : goal.slice_bounds-put_text-end
 slice_bounds-put_text-end c = sym (length-replicate {0} {A = ℕ} 262144 0)
 
 pub put_text-size-requires : goal.put_text-size-requires
-put_text-size-requires c =
-    let file = c.requires in (file, array-fits _ file)
+put_text-size-requires c = array-fits _ c.args.file.accepted
 
 pub slice_bounds-text-end : goal.slice_bounds-text-end
 slice_bounds-text-end c = search fronts

@@ -14,8 +14,8 @@ pub returns-in_err-check_file-clause-room_after : goal.returns-in_err-check_file
 returns-in_err-check_file-clause-room_after c =
     let e : c.from_residual.result ≡ Err (BadFile c.in_err-check_file.field-0.0) = search rules in search (answers, e)
 
-pub write_accepted-requires : goal.write_accepted-requires
-write_accepted-requires c = search (answers, c.in_ok-check_file.was)
+pub invariant_of-write_accepted : goal.invariant_of-write_accepted
+invariant_of-write_accepted c = record { accepted = search (answers, c.in_ok-check_file.was) }
 
 pub returns-clause-value : goal.returns-clause-value
 returns-clause-value c = search (answers, c.in_ok-check_file.was)

@@ -3,8 +3,8 @@
 use Rattle.checking.proofs.LineLaws.{checks}
 use Rattle.checking.proofs.line.check_line.Goals as goal
 
-pub accepted_line-requires : goal.accepted_line-requires
-accepted_line-requires c = search checks
+pub invariant_of-accepted_line : goal.invariant_of-accepted_line
+invariant_of-accepted_line c = record { accepted = search checks }
 
 pub returns-in-Ok : goal.returns-in-Ok
 returns-in-Ok c = search checks

@@ -6,7 +6,7 @@ use Rattle.checking.proofs.line.put_counts.Goals as goal
 
 pub returns : goal.returns
 returns c = (
-  lay-counts c.args.file.now
+  lay-counts c.args.file.bytes.now
       c.event_count-events.ensures.0
       c.item_count-items.ensures.0
       c.action_count-actions.ensures.0

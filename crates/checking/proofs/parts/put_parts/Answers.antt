@@ -1,7 +1,7 @@
 -- Whether any part was laid decides.
 -- Assumes nothing.
 use mathlib.Core.Path.{refl}
-use Rattle.checking.proofs.PartLaws.{tellings, parts_none, parts-some}
+use Rattle.checking.proofs.PartLaws.{parts_none, parts-some}
 use Rattle.checking.proofs.parts.put_parts.Goals as goal
 
 pub returns-then-next-at : goal.returns-then-next-at

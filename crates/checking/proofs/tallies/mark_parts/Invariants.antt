@@ -7,4 +7,4 @@ use Rattle.checking.specs.Inner.{marked}
 use Rattle.checking.proofs.tallies.mark_parts.Given as goal
 
 abbrev pub invariant-loop-p : goal.invariant-loop-p
-invariant-loop-p l = marked l.marks (drop l.p (decode l.file).items) ≡ marked l.initial.marks (decode l.file).items
+invariant-loop-p l = marked l.marks (drop l.p (decode l.file.bytes.now).items) ≡ marked l.initial.marks (decode l.file.bytes.now).items

@@ -10,7 +10,7 @@ abbrev pub decreases-put_items : goal.decreases-put_items
 decreases-put_items l = l.count
 
 abbrev pub invariant-loop-left : goal.invariant-loop-left
-invariant-loop-left l = Laying l.file l.initial.out l.at (items_text (decode l.file) l.from l.count l.depth) l.out l.next l.i l.left l.depth × (l.left ≤ l.count)
+invariant-loop-left l = Laying l.file.bytes.now l.initial.out l.at (items_text (decode l.file.bytes.now) l.from l.count l.depth) l.out l.next l.i l.left l.depth × (l.left ≤ l.count)
 
 abbrev pub decreases-loop-left : goal.decreases-loop-left
 decreases-loop-left l = l.left
