@@ -1,4 +1,5 @@
 // What `unfold` says of an extended score that it refuses, laid out on lent bytes, and how it ends.
+// Each asks for room by a clause: a type around the lent bytes would be built at each call, and taken apart again in it.
 ghost use Rattle.std.specs.Prelude.{◌≡◌, ◌+◌, ◌≤◌, length};
 ghost use Rattle.ascii.specs.Laying.{Laid};
 ghost use Rattle.session.specs.declared.Refusal.TheVariants.{File};
@@ -25,6 +26,7 @@ fn events_folded(extended: &[u8]) -> usize
 }
 
 // How many items the entry at fault is looked for among: all that there may be, where it is an item.
+// An arm for each fault: one that is added has to be given its answer here.
 #[tactic(auto, unfolding(crate::specs::Unfolds::items_told))]
 fn items_told(x: Fault) -> usize
     ensures { result ≡ items_told x }
@@ -77,24 +79,13 @@ pub fn unfold_line(
 {
     match u {
         Ok(_) => 0,
-        Err(UnfoldError::NoRoom) => folded_line(out, name, extended, Err(UnfoldError::NoRoom)),
-        Err(UnfoldError::BadExtended { place }) => folded_line(
-            out,
-            name,
-            extended,
-            Err(UnfoldError::BadExtended { place }),
-        ),
-        Err(UnfoldError::OverLimit) => folded_line(
-            out,
-            name,
-            extended,
-            Err(UnfoldError::OverLimit),
-        ),
         Err(UnfoldError::BadFile { fault }) => put_unfolded(out, name, extended, fault),
+        Err(e) => folded_line(out, name, extended, Err(e)),
     }
 }
 
 // How it ends: done where something was made.
+// A function beside `ending_of`, for the reason that stands there.
 pub fn unfold_ending(u: Result<usize, UnfoldError>) -> Ending
     ensures { result ≡ unfold_ending u }
 {
