@@ -23,6 +23,7 @@ fn came_of(accepted: bool) -> Came
 }
 
 // The line of any file from the front of `out`: with an error number other than 0 it could not be read.
+// A number, and no Result: `AccountTold` takes the error number as it is, 0 where there is none.
 pub fn account_line(out: &mut [u8], name: &[u8], error: i32, file: &[u8]) -> Account
     requires { account_room + length name.now ≤ length out.old }
     ensures { AccountTold out.old name.now error file.now out.new result }

@@ -1,4 +1,6 @@
 // The parts of an accepted score, laid in lent bytes.
+// A place beside the bytes, as in ascii's laying, and each asks for room by a clause: a type around the lent bytes would be built at each call, and taken apart again in it.
+// A mark is a byte, and no `bool`, as the definition `marked` sets it.
 ghost use Rattle.std.specs.Prelude.{◌+◌, ◌*◌, ◌≤◌, length};
 ghost use Rattle.ascii.specs.Decimals.{most_places};
 ghost use Rattle.ascii.specs.Laying.{Laid};

@@ -14,6 +14,7 @@ use score::{AcceptedFile, item_count, read_item};
 pub const PARTS: usize = 16;
 
 // How many actions an item is itself.
+// Its kind is a number, as page's `Item` holds it.
 fn own(i: Item) -> usize
     ensures { (result ≡ own_of i) × (result ≤ 1) }
 {

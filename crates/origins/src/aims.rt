@@ -26,6 +26,7 @@ pub enum Aim {
     Past { table: Table, n: usize },
 }
 
+// A `match` for each definition of Aims, here and below: its arms are the definition's, and an aim that is added has to be given its answer in each.
 fn count_of(table: Table, c: Counts) -> usize
     ensures { result ≡ count_of table c }
 {
@@ -37,6 +38,7 @@ fn count_of(table: Table, c: Counts) -> usize
     }
 }
 
+// A function beside the variant: the tables below stay one row a line with it.
 fn past(table: Table, n: usize) -> Aim
     ensures { result ≡ Past table n }
 {

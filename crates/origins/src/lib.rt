@@ -17,6 +17,7 @@ mod aims;
 mod making;
 mod seeking;
 
+// 0 and 0, and no Option: so the definition `place_in_text` answers.
 fn no_place() -> Place
     ensures { result ≡ no_place }
 {

@@ -1,4 +1,5 @@
 // What a line that was read makes, and where its token stands.
+// A `match` for each definition, an arm for each kind of line. A place beside the text, as in tokens.
 ghost use Rattle.std.specs.Prelude.{◌≡◌, ◌≤◌, length, drop};
 ghost use Rattle.base.specs.Tests.{pick};
 ghost use Rattle.tokens.specs.Tokens.{left_by, blanks, number};
@@ -11,6 +12,7 @@ use contents::Counts;
 use script::{ANY_NUMBER, Found};
 use tokens::{number, past_blanks};
 
+// A function beside the struct: the seven rows of `added_by` are a table of it.
 fn counts(events: usize, items: usize, messages: usize, text: usize) -> Counts
     ensures { result ≡ record { events = events; items = items; messages = messages; text = text } }
 {

@@ -32,6 +32,7 @@ pub fn seek(text: &[u8], wanted: Aim) -> Option<usize>
     let mut stage = Stage::Start;
     let mut aim = wanted;
     let mut listed = 0;
+    // A `loop`: how far a step goes is what `line` answers.
     loop {
         let from = past_blanks(text, at);
         if is_over(text, from, stage) {

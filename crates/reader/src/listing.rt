@@ -1,4 +1,5 @@
 // The message list: each label's entry and its bytes.
+// That the text can be told is a clause: a type around it would be built at each call, and taken apart again for each line.
 ghost use Rattle.filing.specs.Bodies.{ListRoom};
 ghost use Rattle.reader.specs.Filled.{Tellable, Headed, Listed};
 
@@ -25,6 +26,7 @@ pub fn fill_list(text: &[u8], entries: &mut [u8], labels: &mut [u8]) -> usize
     let mut at = past_heading(text);
     let mut n = 0;
     let mut from = 0;
+    // A `while let`: where the next line begins is what the line before answers.
     while let Some(s) = next_line(text, at, Stage::Listing { next: n }) {
         let Found::Message { start, size } = s.found else {
             return at;

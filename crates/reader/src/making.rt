@@ -43,6 +43,7 @@ fn write_file(text: &[u8], c: Counts, out: &mut [u8]) -> usize
 }
 
 // The file in the room, where it is right.
+// It and `settle` of unfolder are two statements each: one function for both would have to say by a law of `From` what each says of its own error.
 fn settle(file: &[u8], room: &mut [u8]) -> Result<usize, TextError>
     requires { length file.now ≤ length room.old }
     ensures { Settles file.now room.old room.new result }
@@ -71,6 +72,7 @@ pub fn judge(text: &[u8], c: Counts, room: &mut [u8]) -> Result<usize, TextError
 }
 
 // A text with its first fault at this byte.
+// A place beside the text, as in tokens: the line is counted from the text's beginning.
 pub fn fault(text: &[u8], at: usize) -> Result<usize, TextError>
     requires { at ≤ length text.now }
     ensures { result ≡ fault_at (place_behind (take at text.now)) }

@@ -28,6 +28,7 @@ fn event_of(inner: usize, events: usize) -> usize
 }
 
 // The n-th item, an action.
+// The numbers of an item are parameters apart, here and for a group: a struct of them would be the `Item` that is made here.
 fn put_send(
     items: &mut [u8],
     n: usize,
@@ -54,6 +55,7 @@ fn put_send(
 }
 
 // The n-th item, a group that is open.
+// Its words are numbers, as page's `Item` holds them.
 fn put_group(
     items: &mut [u8],
     n: usize,
@@ -91,6 +93,7 @@ pub fn fill_page(text: &[u8], start: usize, messages: usize, durations: &mut [u8
     let mut part = 0;
     let mut n = 0;
     let mut inner = 0;
+    // A `while let`: where the next line begins is what the line before answers. A `match`, and no closure: each arm steps counts of its own.
     while let Some(s) = next_line(text, at, stage) {
         at = s.next;
         stage = s.stage;

@@ -14,6 +14,7 @@ pub struct Turn {
 }
 
 // The line from `at` on of a text that has no fault; none where the text is over.
+// A place beside the text, as in tokens: what stands before it is a part of the clause.
 pub fn next_line(text: &[u8], at: usize, stage: Stage) -> Option<Turn>
     requires { Turnable text.now at stage }
     ensures { Turns text.now at stage result }

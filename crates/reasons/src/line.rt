@@ -1,4 +1,5 @@
 // The lines of what can't be read or written.
+// Each asks for room by a clause: a type around the lent bytes would be built at each call, and taken apart again in it.
 ghost use Rattle.std.specs.Prelude.{◌+◌, ◌≤◌, length};
 ghost use Rattle.ascii.specs.Laying.{Laid};
 ghost use Rattle.reasons.specs.Reasons.{reason_room, reason_line, unread_line, unwritten_line, reason_line_room};

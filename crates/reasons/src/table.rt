@@ -1,4 +1,5 @@
 // The words of the system's error numbers.
+// A place beside the bytes, as in ascii's laying, and each asks for room by a clause: a type around the lent bytes would be built at each call, and taken apart again in it.
 ghost use Rattle.std.specs.Prelude.{◌≡◌, ◌+◌, ◌≤◌, length, ◌++◌};
 ghost use Rattle.ascii.specs.Text.{bytes_of};
 ghost use Rattle.ascii.specs.Decimals.{decimal};

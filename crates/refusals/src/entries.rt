@@ -1,4 +1,6 @@
 // The entry at fault, its name for people, and the name of the field that an item's rule is about.
+// A place beside the bytes, as in ascii's laying, and each asks for room by a clause: a type around the lent bytes would be built at each call, and taken apart again in it.
+// A `match` for each definition of Entries, an arm for each of its cases: a fault or an entry that is added has to be given its words here.
 ghost use Rattle.std.specs.Prelude.{◌≡◌, [], ◌+◌, ◌≤◌, length, get_or};
 ghost use Rattle.ascii.specs.Laying.{Laid};
 ghost use Rattle.refusals.specs.Entries.{entry_of, field_words, name_words, name_room, is_entry, entry_words, entry_room, rule_field, rule_room, fault_field, refusal_field, named_words, named_room};
@@ -28,6 +30,7 @@ pub fn entry_of(file: &[u8], x: Refusal) -> Entry
 }
 
 // The name of a field of the table of contents.
+// Tried as a table of the words with `get`, and that what it hands out is the row of `field_words` was not proved.
 fn put_field(out: &mut [u8], at: usize, k: usize) -> usize
     requires { at + name_room ≤ length out.old }
     ensures { Laid out.old at (get_or field_words k []) out.new result × (result ≤ at + name_room) }
@@ -60,6 +63,7 @@ fn put_name(out: &mut [u8], at: usize, e: Entry) -> usize
     }
 }
 
+// No `matches!`, which would take an entry that is added for one with a name.
 #[tactic(auto, unfolding(crate::specs::Entries::is_entry))]
 fn is_entry(e: Entry) -> bool
     ensures { result ≡ is_entry e }

@@ -1,4 +1,6 @@
 // The lines that tell people of a text that is refused.
+// A place beside the bytes, as in ascii's laying, and each asks for room by a clause: a type around the lent bytes would be built at each call, and taken apart again in it.
+// Counts, refusal and hint are parameters apart, since the lines take different ones of them.
 ghost use Rattle.std.specs.Prelude.{Err, ◌+◌, ◌≤◌, length};
 ghost use Rattle.ascii.specs.Laying.{Laid};
 ghost use Rattle.hints.specs.Hints.{hint_room};

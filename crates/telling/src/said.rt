@@ -1,4 +1,6 @@
 // Why a run was refused or has failed, on standard error.
+// Each asks for room by a clause: a type around the lent bytes would be built at each call, and taken apart again in it.
+// Runtime and names are lent apart: a struct of them would be made for each line that is said.
 ghost use Rattle.std.specs.Prelude.{◌≡◌, true, ◌≤◌, length, take};
 ghost use Rattle.base.specs.Tests.{pick};
 ghost use Rattle.ascii.specs.Laying.{Laid};
@@ -42,6 +44,7 @@ fn say_line<P: FnOnce(&mut [u8]) -> usize>(rt: &HostRuntime, put: P)
 // ---- an input that can't be read
 
 // The line of an input that can't be read, with as much of the name as is told.
+// It and `put_unwritten` are one call each, of another line of reasons: one function would take the line as a closure, and be no shorter.
 fn put_unread(text: &mut [u8], name: &[u8], error: i32) -> usize
     requires { said_room ≤ length text.old }
     ensures { Laid text.old 0 (unread_line (told_name name.now) error) text.new result }
@@ -76,6 +79,7 @@ pub enum Blame {
     Line,
 }
 
+// An arm for each refusal, as in the definition `blamed`: one that is added has to be given its answer here.
 fn blame_of(x: Refusal) -> Blame
     ensures { result ≡ blamed x }
 {
@@ -102,6 +106,7 @@ fn put_refused(text: &mut [u8], name: &[u8], file: &[u8], x: Refusal) -> usize
 }
 
 // The line that tells people why an opening was refused, with the name of what it was refused for.
+// A `match`: the arms are the three names.
 fn put_refusal(text: &mut [u8], score: &[u8], first: &[u8], file: &[u8], x: Refusal) -> usize
     requires { said_room ≤ length text.old }
     ensures { Laid text.old 0 (refused_line (refused_name score.now first.now (blamed x)) file.now x) text.new result }
@@ -179,6 +184,7 @@ pub fn say_empty(rt: &HostRuntime, first: &[u8], lines: u64, kept: usize) {
 // ---- after a line
 
 // Whether an opening has been refused, after a line that printed the first n bytes of `out`. People are told of it, and of a first line that opens nothing.
+// A length beside the bytes, since it is public, and its clause stays as callers know it.
 pub fn after_line(
     rt: &HostRuntime,
     file: &[u8],

@@ -1,4 +1,6 @@
 // What `read`, `write` and `unfold` say of what they refuse, laid out on lent bytes, and how they end.
+// Each asks for room by a clause: a type around the lent bytes would be built at each call, and taken apart again in it.
+// A `match` for each command: its arms are the lines that it may say, each of other values.
 #![tactic(auto)]
 
 ghost use Rattle.std.specs.Prelude.{◌≡◌, ◌+◌, ◌≤◌, length};

@@ -1,4 +1,5 @@
 // Numbers in a line for people.
+// A place beside the bytes, as in ascii's laying, and each asks for room by a clause: a type around the lent bytes would be built at each call, and taken apart again in it.
 ghost use Rattle.std.specs.Prelude.{◌++◌, ◌+◌, ◌≤◌, length};
 ghost use Rattle.ascii.specs.Decimals.{most_places, decimal};
 ghost use Rattle.ascii.specs.Laying.{Laid};

@@ -1,4 +1,5 @@
 // The whole reply table for people, a line for each row.
+// A place beside the bytes, as in ascii's laying, and each asks for room by a clause: a type around the lent bytes would be built at each call, and taken apart again in it.
 ghost use Rattle.std.specs.Prelude.{◌≡◌, ◌+◌, ◌*◌, ◌≤◌, length};
 ghost use Rattle.ascii.specs.Laying.{Laid};
 ghost use Rattle.wording.specs.Words.{row_number, row_words, reply_rows, row_count, reply_line, row_lines, reply_lines, replies_room, done_number, done_words, row_room, most_words};
@@ -47,6 +48,7 @@ const REPLY_ROWS: [Row; 30] = [
 ];
 
 // The row's number.
+// A `match`, here and for the words: each kind of row has a table of its own, in another crate.
 #[tactic(auto, unfolding(crate::specs::Words::row_number))]
 pub fn row_number(x: Row) -> usize
     ensures { result ≡ row_number x }

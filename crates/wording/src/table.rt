@@ -1,4 +1,6 @@
 // The reply table, row by row: the words of its column 'When', and whether its column 'Place' names a byte.
+// A place beside the bytes, as in ascii's laying, and each asks for room by a clause: a type around the lent bytes would be built at each call, and taken apart again in it.
+// A `match` is the table itself, each arm a row: a refusal that is added has to be given its words and its place here.
 ghost use Rattle.std.specs.Prelude.{◌≡◌, ◌+◌, ◌≤◌, length};
 ghost use Rattle.ascii.specs.Laying.{Laid};
 ghost use Rattle.wording.specs.Words.{rule_words, fault_words, refusal_words, transcript_words, extended_words, unfolding_words, most_words, fault_placed, placed};
@@ -145,6 +147,7 @@ pub fn put_unfold_words(out: &mut [u8], at: usize, u: Result<usize, UnfoldError>
 }
 
 // Whether the fault is at a byte of the file.
+// No `matches!`, here and for every refusal, which would answer for a fault that is added.
 #[tactic(auto, unfolding(crate::specs::Words::fault_placed))]
 fn fault_placed(x: Fault) -> bool
     ensures { result ≡ fault_placed x }

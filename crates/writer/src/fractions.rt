@@ -1,4 +1,5 @@
 // "Beats in lowest terms, without `/1`."
+// A place beside the bytes, as in ascii's laying.
 ghost use Rattle.std.specs.Prelude.{◌≡◌, ◌+◌, ◌≤◌, length};
 ghost use Rattle.ascii.specs.Laying.{Laid};
 ghost use Rattle.contents.specs.Limits.{longest};
@@ -11,6 +12,7 @@ use ascii::{put_byte, put_decimal};
 const GRAINS_OF_A_BEAT: u64 = 5040;
 
 // The greatest number that divides a beat's grains and these.
+// A `while`: the two numbers of a step are the last one's second and its remainder, and nothing is counted.
 fn common(grains: u64) -> u64
     ensures { Common grains result }
 {

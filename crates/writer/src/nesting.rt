@@ -1,5 +1,6 @@
 // The items of an accepted file: each item's line, then those within it and their closing brace, then those after it. Only a group's body recurses, so the stack is
 // as deep as groups nest.
+// File, depth, bytes and place are lent apart, as in ascii's laying: each call goes on with another depth and another place.
 ghost use Rattle.std.specs.Prelude.{[], ◌+◌, ◌≤◌, length, get_or};
 ghost use Rattle.ascii.specs.Laying.{Laid};
 ghost use Rattle.contents.specs.Limits.{longest};
@@ -27,6 +28,7 @@ fn put_action(
 }
 
 // The `count` items from the page place `from` on, and all within them.
+// An item's kind is a number, as page's `Item` holds it.
 pub fn put_items(
     file: AcceptedFile<'_>,
     from: usize,

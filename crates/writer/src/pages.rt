@@ -1,4 +1,5 @@
 // The whole text: the message list, then the events with their top items.
+// A place beside the bytes, as in ascii's laying.
 ghost use Rattle.std.specs.Prelude.{◌≡◌, [], ◌+◌, ◌≤◌, length, drop, get_or};
 ghost use Rattle.ascii.specs.Laying.{Laid};
 ghost use Rattle.contents.specs.Limits.{last_part};
@@ -61,6 +62,7 @@ fn put_change(out: &mut [u8], at: usize, standing: usize, part: usize) -> usize
 }
 
 // How many items stand within this one.
+// Its kind is a number, as page's `Item` holds it.
 fn within(item: Item) -> usize
     ensures { result ≡ within_of item }
 {
@@ -88,6 +90,7 @@ fn put_top(
 }
 
 // The events and their top items. `standing` is one more than the part of the top item before, 0 at an event's first.
+// A number, and no Option, as the definition `page_lines` of text counts it.
 fn put_page(file: AcceptedFile<'_>, out: &mut [u8], at: usize) -> usize
     requires { at + length (page_text (decode file.bytes.now) 0 0 0) ≤ length out.old }
     ensures { Laid out.old at (page_text (decode file.entry.bytes.now) 0 0 0) out.new result }
@@ -97,7 +100,8 @@ fn put_page(file: AcceptedFile<'_>, out: &mut [u8], at: usize) -> usize
     let mut standing = 0;
     let mut i = 0;
     let mut next = at;
-    // A `loop`: a step takes the top item that comes next, with all within it, or else the next event.
+    // A `loop`: a step takes the top item that comes next, with all within it, or else the next event, as `page_lines` does. A `for` over the events would take the
+    // items in two places, since `page_lines` looks for some before the first event, too.
     loop {
         if stands(file, i, e) {
             let item = read_item(file.bytes, i);

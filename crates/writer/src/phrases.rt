@@ -1,4 +1,5 @@
 // The lines of the text form, each laid behind the first `at` bytes of `out`, which stay. Each function answers where the next begins.
+// A place beside the bytes, as in ascii's laying. Room and a delay's limit are asked for by clauses: a type around either would be built at each call, and taken apart again in it.
 ghost use Rattle.std.specs.Prelude.{◌+◌, ◌≤◌, length};
 ghost use Rattle.ascii.specs.Laying.{Laid};
 ghost use Rattle.contents.specs.Limits.{longest};
@@ -45,6 +46,7 @@ fn put_noted(out: &mut [u8], at: usize, bytes: &[u8]) -> usize
     put_byte(out, b, NEWLINE)
 }
 
+// The two words of a group by their numbers, as page's `Item` holds them and the definitions `synchrony_word` and `error_word` read them.
 fn put_synchrony(out: &mut [u8], at: usize, synchrony: usize) -> usize
     requires { at + length (synchrony_word synchrony) ≤ length out.old }
     ensures { Laid out.old at (synchrony_word synchrony) out.new result }

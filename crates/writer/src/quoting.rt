@@ -1,4 +1,5 @@
 // A label in quotes: a backslash stands before each quote and each backslash of it.
+// A place beside the bytes, as in ascii's laying.
 ghost use Rattle.std.specs.Prelude.{[], ◌∷◌, ◌+◌, ◌≤◌, length};
 ghost use Rattle.ascii.specs.Laying.{Laid};
 ghost use Rattle.tokens.specs.Bytes.{backslash};
