@@ -27,8 +27,5 @@ fn settled_for(error: i32) -> Result<(), SaveError>
 pub fn settled_by(synced: Result<(), i32>) -> Result<(), SaveError>
     ensures { result ≡ settled_by synced }
 {
-    match synced {
-        Ok(()) => Ok(()),
-        Err(error) => settled_for(error),
-    }
+    synced.or_else(settled_for)
 }

@@ -11,10 +11,7 @@ use streams::{Broken, read_whole};
 fn read_by(read: Result<usize, Broken>) -> Result<usize, i32>
     ensures { result ≡ read_of read }
 {
-    match read {
-        Ok(count) => Ok(count),
-        Err(broken) => Err(reason(broken.error)),
-    }
+    read.map_err(|broken| reason(broken.error))
 }
 
 // Reads an input until the buffer is full or the input ends: how many bytes stand at the buffer's start, or the error number of a failure, which is never 0.

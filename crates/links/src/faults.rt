@@ -22,18 +22,12 @@ pub fn reason(error: i32) -> i32
 pub fn told<T>(answer: Result<T, i32>) -> Result<T, i32>
     ensures { result ≡ told_of answer }
 {
-    match answer {
-        Ok(given) => Ok(given),
-        Err(error) => Err(reason(error)),
-    }
+    answer.map_err(reason)
 }
 
 // The same of a call that std answers.
 pub fn answered<T>(answer: io::Result<T>) -> Result<T, i32>
     ensures { result ≡ answered_of answer }
 {
-    match answer {
-        Ok(given) => Ok(given),
-        Err(e) => Err(reason(error_number(e))),
-    }
+    answer.map_err(|e| reason(error_number(e)))
 }

@@ -38,7 +38,7 @@ pub enum Kind {
     Unseen(i32),
 }
 
-// A file is saved beside the path and renamed, with the permissions of the file that it replaces where there is one; or in place, or not at all.
+// A file is saved beside the path and renamed, with the permissions of the file that it replaces where there is one; or in place, or not at all. No Result: all three are told in one match, and a path is found on each of them.
 #[derive(Clone, Copy)]
 pub enum Way {
     Beside(Option<u32>),
@@ -48,10 +48,8 @@ pub enum Way {
 
 // Asks the mode of what stands at a path, or the number of the failure. A link is not followed: it is something else than the file that it names.
 fn ask(rt: &HostRuntime, path: &str) -> Result<u32, i32> {
-    match fs::symlink_metadata(rt, path) {
-        Ok(found) => Ok(found.mode()),
-        Err(e) => Err(error_number(e)),
-    }
+    let found = fs::symlink_metadata(rt, path).map_err(|e| error_number(e))?;
+    Ok(found.mode())
 }
 
 fn kind_by(mode: u32) -> Kind
@@ -96,7 +94,7 @@ pub fn look(rt: &HostRuntime, path: &[u8]) -> Kind
     }
 }
 
-// Which way a file is saved where this stands.
+// Which way a file is saved where this stands: `way_of`, case by case.
 pub fn way_by(kind: Kind) -> Way
     ensures { result ≡ way_of kind }
 {
