@@ -1,4 +1,5 @@
 // A file written whole or not at all: it is made beside the path under another name, made safe, and renamed when it is whole. Where that fails, what was at the path stays and the other file is removed.
+// The path, the other name and the open file stay parameters of their own: each step takes those that it needs, and `IsPart` relates two of them at the one call, as `suffix_size` does the path and its room.
 // Behind a symbolic link the file that it leads to is saved so, and the link stays. What is no regular file, such as a device or a pipe, is written in place and never renamed over.
 ghost use Rattle.std.specs.Prelude.{◌≡◌, ◌+◌, ◌<◌, ◌≤◌, length, take};
 ghost use Rattle.ascii.specs.Laying.{Laid};
@@ -248,6 +249,7 @@ fn save_in_place(rt: &HostRuntime, path: &[u8], bytes: &[u8]) -> Result<(), Save
 
 // ---- the path that is reached
 
+// A match, since each way is a call of its own with what it carries.
 fn save_at(rt: &HostRuntime, place: &[u8], way: Way, bytes: &[u8]) -> Result<(), SaveError> {
     match way {
         Way::Beside(mode) => save_beside(rt, place, mode, bytes),

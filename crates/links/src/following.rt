@@ -1,4 +1,5 @@
 // Links followed up to what they lead to in the end, as the system follows them.
+// That `size` is no longer than a path is a clause: it is so of the first bytes of a place that each function is lent, and that is written meanwhile.
 ghost use Rattle.std.specs.Prelude.{◌≡◌, ◌<◌, ◌≤◌, length};
 ghost use Rattle.links.specs.Paths.{longest_path};
 ghost use Rattle.links.specs.Links.{is_link, turn_of, AtMost, most_links};

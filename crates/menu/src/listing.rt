@@ -1,4 +1,5 @@
 // What `help` prints: how the program is called, a line for each command, and closing lines.
+// A place beside the bytes, as in ascii's laying: `Laid` says what stands before it and behind it.
 ghost use Rattle.std.specs.Prelude.{◌+◌, ◌≤◌, length};
 ghost use Rattle.ascii.specs.Laying.{Laid};
 ghost use Rattle.menu.specs.Table.{row_of, usage_width};

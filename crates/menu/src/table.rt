@@ -32,7 +32,7 @@ pub const COMMANDS: [Command; 7] = [
     Command::Help,
 ];
 
-// A command's row.
+// A command's row: a match, since it is the table, a row for each command.
 pub fn entry_of(c: Command) -> Entry
     ensures { Holds (row_of c) result }
 {

@@ -122,6 +122,7 @@ pub fn begin(arg: &[u8]) -> Order
     }
 }
 
+// That there may be one name more is a clause, here and in what comes to this: it is so of an order that is not yet full, and the order that is handed back may be.
 // The order with a name more, where so many of the names are standard input.
 fn named(o: Order, i: usize, inputs: usize) -> Order
     requires { o.names.count < any_number }
@@ -200,7 +201,7 @@ fn take_plain(o: Order) -> Order
     Order { plain: true, ..o }
 }
 
-// One argument more, by what it is.
+// One argument more, by what it is: `taken_as`, case by case. The order so far, the argument's place and its bytes go together from here on, and stay three: theorems speak of each, and the order alone is what is handed back.
 #[tactic(auto, unfolding(crate::specs::Usage::taken_as))]
 fn take_as(o: Order, i: usize, a: Argument, arg: &[u8]) -> Order
     ensures { result ≡ taken_as o i a arg.now }

@@ -5,7 +5,7 @@ ghost use Rattle.orders.specs.Endings.{ending_of, ending_if};
 use crate::Usage;
 use streams::Ending;
 
-// A wrong usage has failed; any other order ends as it was carried out.
+// A wrong usage has failed; any other order ends as it was carried out. No `From`, since the ending of what was carried out is asked for, too.
 pub fn ending_of(u: Usage, done: Ending) -> Ending
     ensures { result ≡ ending_of u done }
 {

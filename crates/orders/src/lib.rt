@@ -19,7 +19,7 @@ pub enum Argument {
     Dashed,
 }
 
-// Whether the arguments are as the command's usage says, or help is wished for, or what is wrong.
+// Whether the arguments are as the command's usage says, or help is wished for, or what is wrong. No Result: theorems speak of an order's `usage` by these cases (`fault-decides`, `right-counted`), and two of them are no fault.
 #[derive(Clone, Copy)]
 pub enum Usage {
     Right,

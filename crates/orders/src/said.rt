@@ -1,4 +1,5 @@
 // What standard error is told of a wrong usage, and names as people are told them.
+// A place beside the bytes, as in ascii's laying: `Laid` says what stands before it and behind it. A name that is shown in place is the first n of lent bytes, since showing it may need two more than it has.
 ghost use Rattle.std.specs.Prelude.{◌≡◌, map, ◌+◌, ◌≤◌, length, take};
 ghost use Rattle.ascii.specs.Laying.{Laid};
 ghost use Rattle.menu.specs.Table.{row_of};
@@ -53,7 +54,7 @@ fn put_missing(out: &mut [u8], c: Command) -> usize
     put_fault_usage(out, entry_of(c).name, b": an argument is missing\n", c)
 }
 
-// What is told of a wrong usage, from the front of `out`; `arg` is the argument at fault. Answers its length.
+// What is told of a wrong usage, from the front of `out`; `arg` is the argument at fault. Answers its length. A match, since the words of each case are its meaning.
 pub fn misuse_line(out: &mut [u8], o: Order, arg: &[u8]) -> usize
     requires { misuse_room + length arg.now ≤ length out.old }
     ensures { Laid out.old 0 (misuse_line o arg.now) out.new result }

@@ -16,6 +16,7 @@ pub const INTERRUPTED: i32 = 4;
 
 pub const NOT_READY: i32 = 11;
 
+// An enum of its own: after `Again` and `Wait` the call is made again, which neither a value nor an error says.
 #[derive(Clone, Copy)]
 pub enum Outcome {
     Took(usize),

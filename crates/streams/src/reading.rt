@@ -6,13 +6,14 @@ use crate::calls::{INTERRUPTED, MOST_TRIES, NOT_READY, Outcome, came_to, retry};
 use std::io::Read;
 use std::rt::Clock;
 
-// A read that failed before the buffer was full and before the input ended: how many bytes stand at the buffer's start all the same, and the failure's number.
+// A read that failed before the buffer was full and before the input ended: how many bytes stand at the buffer's start all the same, and the failure's number. There are always both.
 #[derive(Clone, Copy)]
 pub struct Broken {
     pub count: usize,
     pub error: i32,
 }
 
+// A function of its own, as `try_write` is: std's `Read` and `Write` are two traits, and only this one writes into the bytes.
 fn try_read<R: Read>(from: &mut R, buf: &mut [u8]) -> Outcome
     ensures { Within (length buf.old) result }
 {
@@ -20,6 +21,7 @@ fn try_read<R: Read>(from: &mut R, buf: &mut [u8]) -> Outcome
     came_to(got)
 }
 
+// A function, as `took` is, and no `From`: a read of no bytes is the input's end, and a write of none has failed.
 fn got_by(o: Outcome) -> Result<Option<usize>, i32>
     ensures { result ≡ got_of o }
 {
@@ -40,7 +42,7 @@ pub fn read_some<R: Read>(
 ) -> Result<Option<usize>, i32>
     ensures { Gives (length buf.old) result }
 {
-    // The tries stand here and in `write_some`: tried as one function over a closure, and that the bytes lie within those lent was lost between the calls.
+    // The tries stand here and in `write_some`: tried as one function over a closure, and that the bytes lie within those lent was lost between the calls. A trait that keeps it, with a type for each of the two, is longer than both loops.
     for _ in 0..MOST_TRIES {
         let o = try_read(from, buf);
         if !retry(rt, o) {
@@ -50,7 +52,7 @@ pub fn read_some<R: Read>(
     Err(NOT_READY)
 }
 
-// One read behind the first `done` bytes, which stay.
+// One read behind the first `done` bytes, which stay: the whole buffer is handed in, since that is what the clause speaks of.
 fn read_behind<R: Read>(
     rt: &impl Clock,
     from: &mut R,

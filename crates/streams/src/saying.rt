@@ -1,4 +1,5 @@
 // What people and programs are told: lines on standard output and on standard error.
+// A line is lent bytes and how many of them were laid: `print` promises `false` for more than there are, and programs call it so.
 ghost use Rattle.std.specs.Prelude.{◌≡◌, false, ◌<◌, length};
 
 use crate::write_whole;
