@@ -3,11 +3,5 @@
 use Rattle.orders.proofs.SaidSteps.{showing}
 use Rattle.orders.proofs.said.show_bytes.Goals as goal
 
-pub loop-b-init : goal.loop-b-init
-loop-b-init c = search showing
-
 pub loop-b-preserved : goal.loop-b-preserved
 loop-b-preserved c = search showing
-
-pub returns : goal.returns
-returns c = search showing
