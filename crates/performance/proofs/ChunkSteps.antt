@@ -64,9 +64,4 @@ taking_step {f} {chunk} {r₀} {lines₀} {m} {room} {line} {out} {at} {p} {m'} 
       owed = t.owed ∙ rw (w.reading, w.next) d;
     }
 
--- reading on gets on
-pub onward : {f chunk m room line out m' room' line' out' : List ℕ} {at : ℕ} {p : Progress} {s : Step}
-    → WentOn f chunk at m room line p out m' room' line' out' s → at < length chunk → length chunk - s.next < length chunk - at
-onward w b = omega (arith, w.onward b, w.within)
-
 pub ruleset chunks = (taking-start, taking-going, taking-all, taking-lines, taking-grace, taking-asked, rules)

@@ -5,7 +5,7 @@ ghost use Rattle.std.specs.Prelude.{◌≡◌, ◌≤◌, length};
 ghost use Rattle.playing.specs.Inner.{Asked, output_room};
 ghost use Rattle.performance.specs.Refused.{ending_after};
 
-use reading::{Run, read_lines};
+use reading::{Names, Run, read_lines};
 use std::io::Read;
 use std::rt::HostRuntime;
 use streams::Ending;
@@ -27,8 +27,7 @@ fn ending_after(refused: bool) -> Ending
 fn finish(
     rt: &HostRuntime,
     file: &[u8],
-    score: &[u8],
-    first: &[u8],
+    names: Names,
     mem: &mut [u64],
     room: &mut [u64],
     line: &[u8],
@@ -40,12 +39,12 @@ fn finish(
         × Asked file.now s.progress.opened out.old }
 {
     let p = s.progress;
-    telling::say_empty(rt, first, p.lines, p.have);
+    telling::say_empty(rt, names.first, p.lines, p.have);
     let n = chunks::last_line(file, mem, room, line, p, out);
     if !streams::print(rt, out, n) {
         return Ending::Failed;
     }
-    let refused = after_line(rt, file, score, first, out, n, s.refused);
+    let refused = after_line(rt, file, names.score, names.first, out, n, s.refused);
     let n = playing::end_line(mem, out);
     if !streams::print(rt, out, n) {
         return Ending::Failed;
@@ -68,12 +67,15 @@ pub fn perform<R: Read>(
 ) -> Ending
     requires { output_room ≤ length out.old }
 {
+    let names = Names {
+        score,
+        first,
+        commands,
+    };
     let mut line = [0u8; 24];
-    let read = read_lines(
-        rt, file, score, first, commands, grace, input, mem, room, &mut line, out,
-    );
+    let read = read_lines(rt, file, names, grace, input, mem, room, &mut line, out);
     match read {
-        Ok(s) => finish(rt, file, score, first, mem, room, &line, s, out),
+        Ok(s) => finish(rt, file, names, mem, room, &line, s, out),
         Err(_) => Ending::Failed,
     }
 }

@@ -1,4 +1,5 @@
 // The input, chunk by chunk: its lines are carried out and what they print is written.
+// The file, the memory, the room, the line and what is printed stay parameters of their own: the clauses speak of each, before and after.
 ghost use Rattle.std.specs.Prelude.{◌≡◌, ◌+◌, ◌≤◌, length, drop, IfOk, MatchResult};
 ghost use Rattle.lines.specs.Input.{kept_bytes};
 ghost use Rattle.playing.specs.Inner.{Asked, output_room};
@@ -14,6 +15,14 @@ use telling::{after_line, say_unread};
 
 // More reads than any input lasts for.
 const MOST_READS: u64 = 1000000000000000;
+
+// What people are told the score, its first line and the commands are called.
+#[derive(Clone, Copy)]
+pub struct Names<'a> {
+    pub score: &'a [u8],
+    pub first: &'a [u8],
+    pub commands: &'a [u8],
+}
 
 // How far a run has come, and whether the opening was refused: that is what the run ends by, and no state of the value beside it.
 #[derive(Clone, Copy)]
@@ -33,8 +42,7 @@ struct Turn {
 fn take_line(
     rt: &HostRuntime,
     file: &[u8],
-    score: &[u8],
-    first: &[u8],
+    names: Names,
     mem: &mut [u64],
     room: &mut [u64],
     chunk: &[u8],
@@ -55,7 +63,7 @@ fn take_line(
     if !streams::print(rt, out, step.count) {
         return Err(step);
     }
-    let refused = after_line(rt, file, score, first, out, step.count, refused);
+    let refused = after_line(rt, file, names.score, names.first, out, step.count, refused);
     Ok(Turn { step, refused })
 }
 
@@ -63,8 +71,7 @@ fn take_line(
 fn take_chunk(
     rt: &HostRuntime,
     file: &[u8],
-    score: &[u8],
-    first: &[u8],
+    names: Names,
     mem: &mut [u64],
     room: &mut [u64],
     chunk: &[u8],
@@ -84,9 +91,7 @@ fn take_chunk(
     let mut p = s.progress;
     let mut refused = s.refused;
     while at < chunk.len() {
-        let turn = match take_line(
-            rt, file, score, first, mem, room, chunk, at, line, p, refused, out,
-        ) {
+        let turn = match take_line(rt, file, names, mem, room, chunk, at, line, p, refused, out) {
             Ok(turn) => turn,
             Err(step) => {
                 return Err(Run {
@@ -109,9 +114,7 @@ fn take_chunk(
 pub fn read_lines<R: Read>(
     rt: &HostRuntime,
     file: &[u8],
-    score: &[u8],
-    first: &[u8],
-    commands: &[u8],
+    names: Names,
     grace: u64,
     input: &mut R,
     mem: &mut [u64],
@@ -137,11 +140,11 @@ pub fn read_lines<R: Read>(
     for _ in 0..MOST_READS {
         match streams::read_some(rt, input, &mut chunk) {
             Ok(Some(n)) => {
-                s = take_chunk(rt, file, score, first, mem, room, &chunk[..n], line, s, out)?;
+                s = take_chunk(rt, file, names, mem, room, &chunk[..n], line, s, out)?;
             }
             Ok(None) => return Ok(s),
             Err(error) => {
-                say_unread(rt, commands, error);
+                say_unread(rt, names.commands, error);
                 return Err(s);
             }
         }

@@ -3,5 +3,5 @@
 use Rattle.performance.proofs.TurnSteps.{turns}
 use Rattle.performance.proofs.reading.take_line.Goals as goal
 
-pub returns : goal.returns
-returns c = search turns
+pub returns-clause-told : goal.returns-clause-told
+returns-clause-told c = search turns
