@@ -1,6 +1,8 @@
 // `save_input PATH [FROM]`: saves standard input, or the file FROM, as the file PATH, so that tests/saving can try how a file is read and saved.
 #![tactic(auto)]
 
+ghost use Rattle.std.specs.Prelude.{◌≤◌, length, IfOk};
+
 use disk::SaveError;
 use std::rt::{Env, HostRuntime};
 use streams::Ending;
@@ -33,6 +35,7 @@ fn tell(path: &[u8], what: &[u8], error: i32) -> Ending {
     Ending::Failed
 }
 
+// A match, since each case has words of its own.
 fn tell_saved(path: &[u8], saved: Result<(), SaveError>) -> Ending {
     match saved {
         Ok(()) => Ending::Done,
@@ -53,43 +56,32 @@ fn tell_saved(path: &[u8], saved: Result<(), SaveError>) -> Ending {
 
 // ---- what is saved
 
-fn save_part(rt: &HostRuntime, path: &[u8], bytes: &[u8], n: usize) -> Ending {
-    match bytes.get(..n) {
-        Some(read) => tell_saved(path, disk::save(rt, path, read)),
-        None => Ending::Failed,
+// Reads standard input, or the file of this name.
+fn read_from(rt: &HostRuntime, from: &[u8], buf: &mut [u8]) -> Result<usize, i32>
+    ensures { IfOk result (λ count. count ≤ length buf.new) }
+{
+    if from.is_empty() {
+        let mut input = rt.stdin();
+        return disk::read_input(rt, &mut input, buf);
     }
+    disk::read_file(rt, from, buf)
 }
 
-fn save_read(rt: &HostRuntime, path: &[u8], bytes: &[u8], read: Result<usize, i32>) -> Ending {
-    match read {
+fn run(rt: &HostRuntime, path: &[u8], from: &[u8], bytes: &mut [u8]) -> Ending {
+    if path.is_empty() {
+        return tell(b"usage: save_input PATH [FROM]", b": ", INVALID);
+    }
+    match read_from(rt, from, bytes) {
         Ok(count) if ROOM <= count => tell(b"the input", b": too long: ", TOO_LARGE),
-        Ok(count) => save_part(rt, path, bytes, count),
+        Ok(count) => tell_saved(path, disk::save(rt, path, &bytes[..count])),
         Err(error) => tell(b"the input", b": can't be read: ", error),
     }
 }
 
-// Reads standard input, or the file that the first n bytes name.
-fn read_from(rt: &HostRuntime, from: &[u8], n: usize, buf: &mut [u8]) -> Result<usize, i32> {
-    if n == 0 || from.len() < n {
-        let mut input = rt.stdin();
-        return disk::read_input(rt, &mut input, buf);
-    }
-    disk::read_file(rt, &from[..n], buf)
-}
-
-fn run(rt: &HostRuntime, path: &[u8], n: usize, from: &[u8], k: usize, bytes: &mut [u8]) -> Ending {
-    if n == 0 {
-        return tell(b"usage: save_input PATH [FROM]", b": ", INVALID);
-    }
-    let Some(path) = path.get(..n) else {
-        return Ending::Failed;
-    };
-    let read = read_from(rt, from, k, bytes);
-    save_read(rt, path, bytes, read)
-}
-
-// How many bytes the argument has: none where it is not there.
-fn argument(rt: &HostRuntime, i: usize, arg: &mut [u8]) -> usize {
+// How many bytes the argument has: none where it is not there, since an empty one is treated alike.
+fn argument(rt: &HostRuntime, i: usize, arg: &mut [u8]) -> usize
+    ensures { result ≤ length arg.new }
+{
     rt.arg(i, arg).unwrap_or(0)
 }
 
@@ -99,5 +91,5 @@ fn main(rt: HostRuntime) {
     let mut bytes = [0u8; ROOM];
     let n = argument(&rt, 1, &mut path);
     let k = argument(&rt, 2, &mut from);
-    streams::tell_ending(run(&rt, &path, n, &from, k, &mut bytes));
+    streams::tell_ending(run(&rt, &path[..n], &from[..k], &mut bytes));
 }
