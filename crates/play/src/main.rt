@@ -37,6 +37,7 @@ fn main(rt: HostRuntime) {
     let mut out = [0u8; OUTPUT_ROOM];
     let read = disk::read_file(&rt, b"score.bin", &mut file);
     let mut input = rt.stdin();
+    // The score is played either way: the flag is how the program ends, not whether there is a size.
     let (size, failed) = match read {
         Ok(size) => (size, false),
         Err(error) => (0, tell_unread(&rt, error)),

@@ -1,4 +1,5 @@
 // `poolmirror`: what people do with a score from the shell. The libraries decide what is asked for, what is said and which status tells it; the program moves bytes between the system and them.
+// The rooms that are lent stay parameters of their own: each call writes some of them while it reads others, and a struct of them would be taken apart again in each. A name is the first n bytes of its room, since it is shown in place there.
 #![tactic(auto)]
 
 ghost use Rattle.std.specs.Prelude.{◌≡◌, ◌≤◌, length, IfSome, IfOk};
@@ -407,7 +408,7 @@ trait Making {
         read_whole(rt, i, name, given)
     }
 
-    // Makes what is saved, from the front of the room: how many bytes it has.
+    // Makes what is saved, from the front of the room: how many bytes it has. The three stay three: each names its reader, its line and its ending.
     fn make(
         name: &[u8],
         given: &[u8],
@@ -576,6 +577,7 @@ fn misused(
 
 // ---- the program
 
+// A match, since each command is a call of its own with the rooms that it needs.
 fn carry_out(
     rt: &HostRuntime,
     o: Order,
@@ -584,8 +586,7 @@ fn carry_out(
 ) -> Ending {
     let mut list = [0u8; PATH_ROOM];
     let mut file = [0u8; FILE_ROOM];
-    let c = o.command;
-    match c {
+    match o.command {
         Command::Check => check(rt, arg, &mut file, out),
         Command::Play => play(rt, o, arg, &mut list, &mut file, out),
         Command::Read => transcribe_text::<Reading>(rt, o),
@@ -602,16 +603,15 @@ fn obey(
     arg: &mut [u8; PATH_ROOM],
     out: &mut [u8; LINE_ROOM],
 ) -> Ending {
-    let u = o.usage;
-    match u {
+    match o.usage {
         Usage::Right => carry_out(rt, o, arg, out),
         Usage::Wished => help(rt, out),
-        Usage::NoCommand => misused(rt, o, arg, out),
-        Usage::NoOption => misused(rt, o, arg, out),
-        Usage::TooFew => misused(rt, o, arg, out),
-        Usage::TooMany => misused(rt, o, arg, out),
-        Usage::NoNumber => misused(rt, o, arg, out),
-        Usage::InputTwice => misused(rt, o, arg, out),
+        Usage::NoCommand
+        | Usage::NoOption
+        | Usage::TooFew
+        | Usage::TooMany
+        | Usage::NoNumber
+        | Usage::InputTwice => misused(rt, o, arg, out),
     }
 }
 
