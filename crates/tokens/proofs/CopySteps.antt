@@ -3,12 +3,13 @@
 use mathlib.Core.Path.{◌≡◌, refl, sym, ap, ◌∙◌}
 use mathlib.Core.Bool.{Bool, true, false}
 use mathlib.Core.List.{List, [], ◌∷◌, ◌++◌, append_assoc, append-nil}
-use Prim.Native.Nat.{ℕ, ◌+◌, ◌<◌, ◌≤◌}
+use Prim.Native.Nat.{ℕ, ◌+◌, ◌-◌, ◌<◌, ◌≤◌}
 use native.Mathlib.Omega.{arith}
-use lib.ListN.{length, drop, get_or, set, length-append, drop_of_length-le}
+use lib.ListN.{length, take, drop, get_or, set, length-append, drop_of_length-le}
 use lib.Dec.{leb, eqb}
 use borrow.Author.Tests.{eq-eqb, ne_eqb, leb-true, leb-false}
 use borrow.Author.Rules.{rules}
+use Rattle.std.proofs.lemmas.List.{take_rest}
 use Rattle.base.specs.Tests.{pick}
 use Rattle.ascii.specs.Words.{newline}
 use Rattle.ascii.specs.Laying.{Laid}
@@ -48,12 +49,10 @@ behind-escaped b bs e = go (is_escaped b) e where
   go false h = not_there h
 
 -- Where a label goes on there is a byte.
-goes_on : (e : Bool) (t : List ℕ) (i : ℕ) → is_read (label_from e (drop i t)) ≡ true → i < length t
+goes_on : (e : Bool) (r : List ℕ) → is_read (label_from e r) ≡ true → 1 ≤ length r
 unfolding label_from is_read
-goes_on e t i p = go (leb (length t) i) refl where
-  go : (v : Bool) → leb (length t) i ≡ v → i < length t
-  go true l = let z : drop i t ≡ [] = drop_of_length-le t (leb-true _ _ l) in not_there (rw z at p)
-  go false l = leb-false _ _ l
+goes_on e [] p = not_there p
+goes_on e (b ∷ bs) p = omega arith
 
 -- ---- the first quote
 
@@ -71,86 +70,84 @@ module _ (t : List ℕ) (at : ℕ) (p : is_read (label (drop at t)) ≡ true) wh
 
 -- ---- from there on
 
--- e: a backslash stands before byte i.
-pub record Copying (t : List ℕ) (at : ℕ) (o : List ℕ) (to : ℕ) (out : List ℕ) (e : Bool) (i next : ℕ) : Type 0 where
+-- r: the bytes that are left. e: a backslash stands before them.
+pub record Copying (t : List ℕ) (at : ℕ) (o : List ℕ) (to : ℕ) (out : List ℕ) (e : Bool) (r : List ℕ) (next : ℕ) : Type 0 where
   pub bytes : List ℕ
   pub laid : Laid o to bytes out next
-  pub rest : bytes ++ bytes_in (label_from e (drop i t)) ≡ bytes_in (label (drop at t))
-  pub there : is_read (label_from e (drop i t)) ≡ true
+  pub rest : bytes ++ bytes_in (label_from e r) ≡ bytes_in (label (drop at t))
+  pub there : is_read (label_from e r) ≡ true
 
 pub copy_at : (t : List ℕ) (at : ℕ) (o : List ℕ) (to : ℕ) → Copyable t at o to → at < length t
 copy_at t at o to c = (quote-there t at c.labelled).0
 
-pub copy_start : (t : List ℕ) (at : ℕ) (o : List ℕ) (to : ℕ) → Copyable t at o to → Copying t at o to o false (at + 1) to
+pub copy_start : (t : List ℕ) (at : ℕ) (o : List ℕ) (to : ℕ) → Copyable t at o to → Copying t at o to o false (take (length t - (at + 1)) (drop (at + 1) t)) to
 copy_start t at o to c =
     let q = quote-there t at c.labelled in
     let e : label (drop at t) ≡ label_from false (drop (at + 1) t) = q.1 in
     let l : to ≤ length o = omega (arith, c.room) in
-    record { bytes = []; laid = laid-nothing o to l; rest = rw e; there = rw e at c.labelled }
+    rw (take_rest t (at + 1)) (record { bytes = []; laid = laid-nothing o to l; rest = rw e; there = rw e at c.labelled })
 
-module _ (t : List ℕ) (at : ℕ) (o : List ℕ) (to : ℕ) (out : List ℕ) (e : Bool) (i next : ℕ) (c : Copyable t at o to) (inv : Copying t at o to out e i next) where
+module _ (t : List ℕ) (at : ℕ) (o : List ℕ) (to : ℕ) (out : List ℕ) (e : Bool) (r : List ℕ) (next : ℕ) (c : Copyable t at o to) (inv : Copying t at o to out e r next) where
   -- The label ends within the text.
-  pub copy_over : length t ≤ i → Laid o to (bytes_in (label (drop at t))) out next
-  copy_over p = let more = goes_on e t i inv.there in absurd (omega arith)
+  pub copy_over : length r < 1 → Laid o to (bytes_in (label (drop at t))) out next
+  copy_over p = let more = goes_on e r inv.there in absurd (omega arith)
 
   -- One byte more.
-  module _ (b : ℕ) (n : Behind b (label_from e (drop i t)) (label_from false (drop (i + 1) t))) where
+  module _ (b : ℕ) (n : Behind b (label_from e r) (label_from false (drop 1 r))) where
     byte_fits : next + 1 ≤ length out
     byte_fits =
-        let r = ap (λ (l : List ℕ). length l) inv.rest in
+        let z = ap (λ (l : List ℕ). length l) inv.rest in
         let s = ap (λ (l : List ℕ). length l) n.bytes in
-        omega (arith, c.room, inv.laid.stop, inv.laid.size, length-append inv.bytes (bytes_in (label_from e (drop i t))))
+        omega (arith, c.room, inv.laid.stop, inv.laid.size, length-append inv.bytes (bytes_in (label_from e r)))
 
-    byte-copied : Copying t at o to (set out next b) false (i + 1) (next + 1)
+    byte-copied : Copying t at o to (set out next b) false (take (length r - 1) (drop 1 r)) (next + 1)
     byte-copied =
-        let a = append_assoc inv.bytes (b ∷ []) (bytes_in (label_from false (drop (i + 1) t))) in
-        record {
+        let a = append_assoc inv.bytes (b ∷ []) (bytes_in (label_from false (drop 1 r))) in
+        rw (take_rest r 1) (record {
           bytes = inv.bytes ++ (b ∷ []);
           laid = laid-join o out (set out next b) _ _ to next _ inv.laid (laid-byte out next b byte_fits);
           rest = a ∙ (rw n.bytes at inv.rest);
           there = n.there;
-        }
+        })
 
-  module _ (more : i < length t) where
+  module _ (more : 1 ≤ length r) where
+    front : r ≡ get_or r 0 0 ∷ drop 1 r
+    front = drop-next r 0 more
+
     module _ (k : e ≡ true) where
-      escaped : Behind (get_or t i 0) (label_from e (drop i t)) (label_from false (drop (i + 1) t))
-      escaped =
-          let d = drop-next t i more in
-          rw (k, d) (behind-escaped (get_or t i 0) (drop (i + 1) t) (rw (k, d) at inv.there))
+      escaped : Behind (get_or r 0 0) (label_from e r) (label_from false (drop 1 r))
+      escaped = rw (k, front) (behind-escaped (get_or r 0 0) (drop 1 r) (rw (k, front) at inv.there))
 
       pub escape-fits : next < length out
-      escape-fits = omega (arith, byte_fits (get_or t i 0) escaped)
+      escape-fits = omega (arith, byte_fits (get_or r 0 0) escaped)
 
-      pub copy-escape : Copying t at o to (set out next (get_or t i 0)) false (i + 1) (next + 1)
-      copy-escape = byte-copied (get_or t i 0) escaped
+      pub copy-escape : Copying t at o to (set out next (get_or r 0 0)) false (take (length r - 1) (drop 1 r)) (next + 1)
+      copy-escape = byte-copied (get_or r 0 0) escaped
 
     module _ (k : e ≡ false) where
-      pub copy_done : get_or t i 0 ≡ quote → Laid o to (bytes_in (label (drop at t))) out next
+      pub copy_done : get_or r 0 0 ≡ quote → Laid o to (bytes_in (label (drop at t))) out next
       unfolding label_from bytes_in pick
       copy_done q =
-          let r : inv.bytes ++ [] ≡ bytes_in (label (drop at t)) = rw (k, drop-next t i more, eq-eqb (get_or t i 0) quote q) at inv.rest in
-          let s : inv.bytes ≡ bytes_in (label (drop at t)) = sym (append-nil inv.bytes) ∙ r in
+          let z : inv.bytes ++ [] ≡ bytes_in (label (drop at t)) = rw (k, front, eq-eqb (get_or r 0 0) quote q) at inv.rest in
+          let s : inv.bytes ≡ bytes_in (label (drop at t)) = sym (append-nil inv.bytes) ∙ z in
           rw s at inv.laid
 
-      module _ (inside : get_or t i 0 ≡ quote → ⊥) where
-        pub copy-slash : get_or t i 0 ≡ backslash → Copying t at o to out true (i + 1) next
-        unfolding label_from pick
-        copy-slash b =
-            let d = drop-next t i more in
-            let q = ne_eqb (get_or t i 0) quote inside in
-            let s = eq-eqb (get_or t i 0) backslash b in
-            record { bytes = inv.bytes; laid = inv.laid; rest = rw (k, d, q, s) at inv.rest; there = rw (k, d, q, s) at inv.there }
+      pub copy-slash : get_or r 0 0 ≡ backslash → Copying t at o to out true (take (length r - 1) (drop 1 r)) next
+      unfolding label_from pick
+      copy-slash b =
+          let inside : get_or r 0 0 ≡ quote → ⊥ = (λ h. omega arith) in
+          let q = ne_eqb (get_or r 0 0) quote inside in
+          let s = eq-eqb (get_or r 0 0) backslash b in
+          rw (take_rest r 1) (record { bytes = inv.bytes; laid = inv.laid; rest = rw (k, front, q, s) at inv.rest; there = rw (k, front, q, s) at inv.there })
 
-        module _ (other : get_or t i 0 ≡ backslash → ⊥) where
-          plain : Behind (get_or t i 0) (label_from e (drop i t)) (label_from false (drop (i + 1) t))
-          plain =
-              let d = drop-next t i more in
-              rw (k, d) (behind-plain (get_or t i 0) (drop (i + 1) t) inside other (rw (k, d) at inv.there))
+      module _ (inside : get_or r 0 0 ≡ quote → ⊥) (other : get_or r 0 0 ≡ backslash → ⊥) where
+        plain : Behind (get_or r 0 0) (label_from e r) (label_from false (drop 1 r))
+        plain = rw (k, front) (behind-plain (get_or r 0 0) (drop 1 r) inside other (rw (k, front) at inv.there))
 
-          pub copy-fits : next < length out
-          copy-fits = omega (arith, byte_fits (get_or t i 0) plain)
+        pub copy-fits : next < length out
+        copy-fits = omega (arith, byte_fits (get_or r 0 0) plain)
 
-          pub copy-byte : Copying t at o to (set out next (get_or t i 0)) false (i + 1) (next + 1)
-          copy-byte = byte-copied (get_or t i 0) plain
+        pub copy-byte : Copying t at o to (set out next (get_or r 0 0)) false (take (length r - 1) (drop 1 r)) (next + 1)
+        copy-byte = byte-copied (get_or r 0 0) plain
 
 pub ruleset copying = (copy_at, copy_start, copy_over, copy_done, copy-slash, escape-fits, copy-escape, copy-fits, copy-byte, rules)

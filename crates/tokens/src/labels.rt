@@ -32,29 +32,24 @@ pub fn label(text: &[u8], at: usize) -> Result<Token, usize>
         return Err(at);
     }
     let mut size = 0;
-    let mut escaped = false;
-    for i in at + 1..text.len() {
-        let b = text[i];
-        if escaped {
-            if !is_escaped(b) {
-                return Err(i);
-            }
-            escaped = false;
-            size += 1;
-            continue;
-        }
-        if b == QUOTE {
+    let mut rest = &text[at + 1..];
+    // An escape is two bytes, so no `for` over the bytes fits.
+    while let [b, after @ ..] = rest {
+        rest = after;
+        if *b == QUOTE {
             return Ok(Token {
                 value: size,
-                next: i + 1,
+                next: text.len() - rest.len(),
             });
         }
-        if b == BACKSLASH {
-            escaped = true;
-            continue;
+        if *b == NEWLINE {
+            return Err(text.len() - rest.len() - 1);
         }
-        if b == NEWLINE {
-            return Err(i);
+        if *b == BACKSLASH {
+            match rest {
+                [escaped, behind @ ..] if is_escaped(*escaped) => rest = behind,
+                _ => return Err(text.len() - rest.len()),
+            }
         }
         size += 1;
     }
@@ -67,21 +62,24 @@ pub fn put_label(text: &[u8], at: usize, out: &mut [u8], to: usize) -> usize
     ensures { Laid out.old to (bytes_in (label (drop at text.now))) out.new result }
 {
     let mut next = to;
-    let mut escaped = false;
-    for i in at + 1..text.len() {
-        let b = text[i];
-        if !escaped {
-            if b == QUOTE {
-                return next;
-            }
-            if b == BACKSLASH {
-                escaped = true;
-                continue;
-            }
+    let mut rest = &text[at + 1..];
+    // An escape is two bytes, so no `for` over the bytes fits.
+    while let [b, after @ ..] = rest {
+        rest = after;
+        if *b == QUOTE {
+            return next;
         }
-        out[next] = b;
+        if *b == BACKSLASH {
+            // A label that is there has a byte behind each backslash.
+            let [escaped, behind @ ..] = rest else {
+                return next;
+            };
+            out[next] = *escaped;
+            rest = behind;
+        } else {
+            out[next] = *b;
+        }
         next += 1;
-        escaped = false;
     }
     next
 }
