@@ -1,7 +1,7 @@
 // Links followed up to what they lead to in the end, as the system follows them.
 // That `size` is no longer than a path is a clause: it is so of the first bytes of a place that each function is lent, and that is written meanwhile.
 ghost use Rattle.std.specs.Prelude.{◌≡◌, ◌<◌, ◌≤◌, length};
-ghost use Rattle.links.specs.Paths.{longest_path};
+ghost use Rattle.links.specs.Paths.{longest_path, path_room};
 ghost use Rattle.links.specs.Links.{is_link, turn_of, AtMost, most_links};
 
 use crate::faults::told;
@@ -98,8 +98,8 @@ fn follow(rt: &HostRuntime, place: &mut [u8; PATH_ROOM], size: usize) -> Result<
     go_to(place, size, &target[..n])
 }
 
-// Follows links from the path that is the first `size` bytes, and lays the path that is reached over it.
-pub fn find(rt: &HostRuntime, place: &mut [u8; PATH_ROOM], size: usize) -> Found
+// Follows links from the path that is the first `size` bytes of a path's room, and lays the path that is reached over it.
+fn find_in(rt: &HostRuntime, place: &mut [u8; PATH_ROOM], size: usize) -> Found
     requires { size ≤ longest_path }
     ensures { result.size ≤ longest_path }
 {
@@ -120,5 +120,19 @@ pub fn find(rt: &HostRuntime, place: &mut [u8; PATH_ROOM], size: usize) -> Found
             }
         }
         followed += 1;
+    }
+}
+
+// The same of any lent bytes that are as many as a path's room: a caller may have no array.
+pub fn find(rt: &HostRuntime, place: &mut [u8], size: usize) -> Found
+    requires { (size ≤ longest_path) × (length place.old ≡ path_room) }
+    ensures { (result.size ≤ longest_path) × (length place.new ≡ path_room) }
+{
+    match place.as_mut_array::<PATH_ROOM>() {
+        Some(room) => find_in(rt, room, size),
+        None => Found {
+            size,
+            way: Way::Barred(NAME_TOO_LONG),
+        },
     }
 }
