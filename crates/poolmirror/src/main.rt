@@ -2,7 +2,8 @@
 // The rooms that are lent stay parameters of their own: each call writes some of them while it reads others, and a struct of them would be taken apart again in each. A name is the first n bytes of its room, since it is shown in place there.
 #![tactic(auto)]
 
-ghost use Rattle.std.specs.Prelude.{◌≡◌, ◌≤◌, length, IfSome, IfOk};
+ghost use Rattle.std.specs.Prelude.{◌≡◌, false, ◌≤◌, length, IfSome, IfOk, IfErr};
+ghost use Rattle.orders.specs.Endings.{ending_if};
 
 use ascii::{put_byte, put_number};
 use checking::Tally;
@@ -173,6 +174,7 @@ fn check_name(
     t: Tally,
 ) -> Result<Tally, Ending>
     requires { n ≤ length arg.old }
+    ensures { IfErr result (λ ending. ending ≡ ending_if false) }
 {
     let read = read_named(rt, i, &arg[..n], file);
     let shown = orders::show(arg, n);
@@ -181,7 +183,7 @@ fn check_name(
         Err(error) => checking::account_line(out, &arg[..shown], error, b""),
     };
     if !streams::print(rt, out, a.count) {
-        return Err(Ending::Failed);
+        return Err(orders::ending_if(false));
     }
     Ok(checking::count_file(t, a.came))
 }
@@ -194,7 +196,9 @@ fn check_argument(
     file: &mut [u8],
     out: &mut [u8; LINE_ROOM],
     s: Run,
-) -> Result<Run, Ending> {
+) -> Result<Run, Ending>
+    ensures { IfErr result (λ ending. ending ≡ ending_if false) }
+{
     let n = read_argument(rt, i, arg);
     let named = orders::is_name(s.order, &arg[..n]);
     let order = orders::take(s.order, i, &arg[..n]);
@@ -214,7 +218,9 @@ fn check_names(
     arg: &mut [u8; PATH_ROOM],
     file: &mut [u8],
     out: &mut [u8; LINE_ROOM],
-) -> Result<Tally, Ending> {
+) -> Result<Tally, Ending>
+    ensures { IfErr result (λ ending. ending ≡ ending_if false) }
+{
     let count = argument_count(rt);
     let order = begin_order(rt, arg);
     let mut s = Run {
